@@ -1,0 +1,4 @@
+pub mod Set
+pub mod Layout
+pub mod Reading
+pub mod Answers
