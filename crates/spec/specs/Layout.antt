@@ -1,12 +1,12 @@
 -- The file of a set, `fileOf count rows`:
 --
 --   row count | data of each populated block | entries, four bytes each | number of entries
-use Prim.Native.Nat.{ℕ, zero, suc, _+_, _-_, _*_, _/_, _%_, _^_}
+use Prim.Native.Nat.{ℕ, zero, suc, _+_, _-_, _*_, _/_, _%_}
 use mathlib.Core.Bool.{Bool, true, false, cond}
 use mathlib.Core.List.{List, [], _∷_, _++_, map, flatMap}
 use lib.ListN.{length}
 use lib.Dec.{leb, ltb, eqb}
-use Rattle.spec.specs.Set.{rank}
+use Rattle.spec.specs.Set.{bit, contains, rank}
 
 -- all numbers little-endian: n in w bytes
 unfoldable pub bytesOf : ℕ → ℕ → List ℕ
@@ -57,10 +57,14 @@ rowsOf gs = flatMap rowsIn gs
 abbrev pub sparseData : List ℕ → List ℕ
 sparseData ps = flatMap (bytesOf 2) ps
 
+-- the number whose bit p, of f bits, is set when place a + p is in the set
+unfoldable pub wordFrom : ℕ → ℕ → List ℕ → ℕ
+wordFrom zero a ps = 0
+wordFrom (suc f) a ps = bit (contains a ps) + 2 * wordFrom f (suc a) ps
+
 -- the 64-bit word of mini-block m, with bit p set when place 64 m + p is in the set
-unfoldable pub word : ℕ → List ℕ → ℕ
-word m [] = 0
-word m (p ∷ ps) = cond (eqb (p / 64) m) (2 ^ (p % 64)) 0 + word m ps
+abbrev pub word : ℕ → List ℕ → ℕ
+word m ps = wordFrom 64 (64 * m) ps
 
 -- a mini-block of 10 bytes: its word, then the number of block rows in earlier mini-blocks
 unfoldable pub miniBlock : ℕ → List ℕ → List ℕ

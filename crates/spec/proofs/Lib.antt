@@ -1,0 +1,10 @@
+pub mod Tests
+pub mod Rising
+pub mod Questions
+pub mod Batches
+pub mod Bytes
+pub mod RowCount
+pub mod Words
+pub mod Content
+pub mod Blocks
+pub mod Accepted
