@@ -11,7 +11,7 @@ use borrow.Author.Tests.{eqb-true, eqb-false, ne-eqb, eq-eqb}
 use Rattle.spec.specs.Layout.{size, Block, join, push, blocks, rowsIn, rowsOf}
 use Rattle.spec.specs.Reading.{blockCount, rowsAt}
 use Rattle.spec.proofs.Tests.{by-test}
-use Rattle.spec.proofs.Rising.{Rising, rising-lower, rising-widen}
+use Rattle.spec.proofs.Rising.{Rising, rising-lower, rising-widen, rising-append}
 
 -- blocks from number `low` on, as a set of rows below `count` has them: numbers increasing and below B, none empty, places increasing
 abbrev pub Well : ℕ → ℕ → List Block → Type 0
@@ -121,20 +121,22 @@ blocks-rows count low (g ∷ gs) w = go (g .places) refl (blocks-rows count (suc
 
 -- ---- the rows of well-formed blocks rise
 
-rows-rise : (count b low next : ℕ) (ps rest : List ℕ) → Rising low (rowsAt count b) ps → Rising next count rest → (b + 1) * size ≤ next → low ≤ size
-    → Rising (b * size + low) count (map (λ p. b * size + p) ps ++ rest)
-rows-rise count b low next [] rest r s h l = rising-lower (b * size + low) next count rest (omega arith) s
-rows-rise count b low next (p ∷ ps) rest r s h l =
-    let e : b * size + suc p ≡ suc (b * size + p) = omega arith in
-    (omega arith, omega arith, rw e at (rows-rise count b (suc p) next ps rest (r .2) s h (omega arith)))
+pub rows-in-rise : (b low end : ℕ) (ps : List ℕ) → Rising low end ps → Rising (b * size + low) (b * size + end) (map (λ p. b * size + p) ps)
+rows-in-rise b low end [] r = tt
+rows-in-rise b low end (p ∷ ps) r =
+    let e : b * size + suc p ≡ suc (b * size + p) = omega arith in (omega arith, omega arith, rw e at (rows-in-rise b (suc p) end ps (r .2)))
 
 pub well-rows : (count low : ℕ) (gs : List Block) → Well count low gs → Rising (low * size) count (rowsOf gs)
 unfolding rowsOf flatMap
 well-rows count low [] w = tt
 well-rows count low (g ∷ gs) w =
+    let b = g .number in
+    let mid = b * size + rowsAt count b in
     let l = w .0 in
-    rising-lower (low * size) (g .number * size + 0) count (rowsOf (g ∷ gs)) (omega arith)
-    (rows-rise count (g .number) 0 (suc (g .number) * size) (g .places) (rowsOf gs) (w .3) (well-rows count (suc (g .number)) gs (w .4)) (omega arith) zero-le)
+    let n = w .1 in
+    rising-append (low * size) mid count (rowsIn g) (rowsOf gs) (omega arith) (omega arith)
+    (rising-lower (low * size) (b * size + 0) mid (rowsIn g) (omega arith) (rows-in-rise b 0 (rowsAt count b) (g .places) (w .3)))
+    (rising-lower mid (suc b * size) count (rowsOf gs) (omega arith) (well-rows count (suc b) gs (w .4)))
 
 pub well-length : (count low : ℕ) (gs : List Block) → Well count low gs → length gs ≤ blockCount count - low
 well-length count low [] w = zero-le

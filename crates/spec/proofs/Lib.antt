@@ -8,3 +8,6 @@ pub mod Words
 pub mod Content
 pub mod Blocks
 pub mod Accepted
+pub mod Written
+pub mod Demands
+pub mod Splits

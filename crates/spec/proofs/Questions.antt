@@ -3,11 +3,11 @@ use Prim.Native.Nat.{ℕ, zero, suc, _+_, _-_, _≤_, _<_, zero-le}
 use mathlib.Core.Path.{_≡_, refl, sym, _∙_}
 use mathlib.Core.Bool.{true, false, _||_, cond, true≢false, false≢true}
 use mathlib.Core.List.{List, [], _∷_, _++_}
-use mathlib.Core.Option.{none, some}
+use mathlib.Core.Option.{Option, none, some}
 use native.Mathlib.Nat.{zero-add}
 use native.Mathlib.Omega.{arith, by-contra}
 use lib.ListN.{length, getD}
-use lib.Dec.{ltb, eqb, leb·suc-suc}
+use lib.Dec.{leb, ltb, eqb, leb·suc-suc}
 use borrow.Author.Tests.{ltb-true, ltb-false, eqb-true, le-leb, lt-leb, lt-ltb, le-ltb, eq-eqb}
 use Rattle.spec.specs.Set.{contains, rank, lookup, select, next, below}
 use Rattle.spec.proofs.Tests.{by-test, and-true, true-and}
@@ -101,6 +101,16 @@ none-next t xs h =
     next-is (length xs) t xs (omega arith) (λ k l. h (select k xs) (member-contains k xs l)) (λ l. absurd (omega arith))
     ∙ rw (le-ltb (length xs) (length xs) (omega arith))
 
+-- of two lists: the first's, or else the second's
+abbrev pub orElse : Option ℕ → Option ℕ → Option ℕ
+orElse none o = o
+orElse (some s) o = some s
+
+pub next-append : (t : ℕ) (xs ys : List ℕ) → next t (xs ++ ys) ≡ orElse (next t xs) (next t ys)
+unfolding next
+next-append t [] ys = refl
+next-append t (x ∷ xs) ys = by-test (leb t x) (λ e. rw e) (λ e. rw e (next-append t xs ys))
+
 -- ---- below: every one is, or one is not
 
 pub below-all : (n : ℕ) (ks : List ℕ) → below n ks ≡ true → (i : ℕ) → i < length ks → getD ks i 0 < n
@@ -182,6 +192,13 @@ module _ (low end : ℕ) (xs : List ℕ) (r : Rising low end xs) where
   -- next is the member at the rank of t
   pub next-select : (t : ℕ) → next t xs ≡ cond (ltb (rank t xs) (length xs)) (some (select (rank t xs) xs)) none
   next-select t = next-is (rank t xs) t xs (rank-le t xs) (rank-below t) (rank-above t (rank t xs) (omega arith))
+
+  -- no member is at or after the end, and every one is at or after `low`
+  pub next-past : (t : ℕ) → end ≤ t → next t xs ≡ none
+  next-past t h = none-next t xs (λ m c. let k = contains-member m xs c in omega (arith, rising-between (k .0) low end xs (k .1) r))
+
+  pub next-low : (t u : ℕ) → t ≤ low → u ≤ low → next t xs ≡ next u xs
+  next-low t u h l = simp (next-select, rank-low t h, rank-low u l)
 
   -- it is a member, at or after t, and the smallest such
   pub next-found : (t s : ℕ) → next t xs ≡ some s
