@@ -11,3 +11,4 @@ pub mod Accepted
 pub mod Written
 pub mod Demands
 pub mod Splits
+pub mod Directory

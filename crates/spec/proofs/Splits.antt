@@ -225,6 +225,11 @@ module _ (count : ℕ) (gs : List Block) (w : Well count 0 gs) where
   pub bytes-before-next : (b : ℕ) → bytesBefore (b + 1) gs ≡ bytesBefore b gs + dataSize (length (placesOf b gs))
   bytes-before-next b = cut count 0 b gs w .next-bytes
 
+  pub bytes-before-le : (b : ℕ) → bytesBefore b gs ≤ length (allData gs)
+  bytes-before-le b =
+      let c = cut count 0 b gs w in
+      omega (arith, ap length (c .bytes), length-append (c .data-before) (dataOf (placesOf b gs) ++ c .data-after), c .many)
+
   pub block-data : (b at : ℕ) (pre rest : List ℕ) → length pre ≡ at
       → part (at + bytesBefore b gs) (at + bytesBefore (b + 1) gs) (pre ++ (allData gs ++ rest)) ≡ dataOf (placesOf b gs)
   block-data b at pre rest l =
