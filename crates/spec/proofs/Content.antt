@@ -6,14 +6,14 @@ use mathlib.Core.List.{List, [], _∷_, _++_, flatMap, append-assoc, append-nil}
 use native.Mathlib.Omega.{arith}
 use lib.ListN.{length, length-append}
 use lib.Dec.{leb, ltb, eqb}
-use borrow.Author.Tests.{ltb-true, eqb-true, eq-eqb}
+use borrow.Author.Tests.{le-leb, lt-leb, eqb-true, eq-eqb}
 use Rattle.spec.specs.Set.{rising, rank, contains}
-use Rattle.spec.specs.Layout.{bytesOf, size, sparseData, wordFrom, word, miniBlock, miniBlocks, dense, dataOf}
+use Rattle.spec.specs.Layout.{bytesOf, size, sparseData, wordFrom, word, miniBlock, miniBlocks, dense, dataOf, entryOf}
 use Rattle.spec.specs.Reading.{AreBytes, numberIn, part, dataSize, sparsePlaces, bits, wordAt, countAt, densePlaces, placesIn, countsOk, contentOk}
 use Rattle.spec.proofs.Tests.{cond-yes, cond-no, and-true}
 use Rattle.spec.proofs.Bytes.{length-bytes, number-bytes, part-at, part-join, part-none, part-all, part-number, part-number-lt, regroup, next-part, longer}
 use Rattle.spec.proofs.Rising.{Rising, rising-facts, rising-true, rising-widen, rising-append}
-use Rattle.spec.proofs.Questions.{rank-le-sub}
+use Rattle.spec.proofs.Questions.{rank-le-sub, rank-rest}
 use Rattle.spec.proofs.Words.{word-lt, members, bits-word, members-all, members-append, bits-rising, word-bits}
 
 -- ---- sizes
@@ -39,6 +39,24 @@ length-data ps = go (dense (length ps))
     go : (b : Bool) → length (cond b (miniBlocks 1024 0 ps) (sparseData ps)) ≡ cond b 10240 (2 * length ps)
     go true = length-minis 1024 0 ps
     go false = length-sparse ps
+
+-- ---- the form: at most 5,119 rows are sparse, from 5,120 rows on they are dense
+
+pub data-sparse : (ps : List ℕ) → length ps ≤ 5119 → (dataOf ps ≡ flatMap (bytesOf 2) ps) × (dataSize (length ps) ≡ 2 * length ps)
+unfolding dataOf
+data-sparse ps h = let e = lt-leb 5120 (length ps) (omega arith) in (rw e, rw e)
+
+pub data-dense : (ps : List ℕ) → 5120 ≤ length ps → (dataOf ps ≡ miniBlocks 1024 0 ps) × (dataSize (length ps) ≡ 10240)
+unfolding dataOf
+data-dense ps h = let e = le-leb 5120 (length ps) h in (rw e, rw e)
+
+-- the last mini-block of a full block says 65,472 before it, and its entry 65535
+pub full-block : (b : ℕ) (ps : List ℕ) → Rising 0 size ps → length ps ≡ 65536
+    → (miniBlock 1023 ps ≡ bytesOf 8 (word 1023 ps) ++ (0xC0 ∷ 0xFF ∷ [])) × (entryOf (record { number = b; places = ps }) ≡ bytesOf 2 b ++ (0xFF ∷ 0xFF ∷ []))
+unfolding miniBlock entryOf bytesOf
+full-block b ps r l =
+    let n : rank 65472 ps ≡ 65472 = omega (arith, rank-le-sub 0 size ps r 65472, rank-rest 0 size ps r 65472) in
+    (ap (λ n. bytesOf 8 (word 1023 ps) ++ bytesOf 2 n) n, ap (λ n. bytesOf 2 b ++ bytesOf 2 (n - 1)) l)
 
 -- ---- read back as written
 

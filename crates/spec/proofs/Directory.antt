@@ -1,6 +1,7 @@
 -- What opening gave together: the directory's words, and the part of the file that holds a block's data.
 use Prim.Native.Nat.{ℕ, zero, suc, _+_, _-_, _*_, _/_, _≤_, _<_}
 use mathlib.Core.Path.{_≡_, refl, sym, ap, ap₂, _∙_, subst}
+use mathlib.Core.Bool.{false}
 use mathlib.Core.List.{List, [], _∷_, _++_, map}
 use native.Mathlib.Nat.{zero-add}
 use native.Mathlib.Omega.{arith}
@@ -11,8 +12,10 @@ use borrow.Author.Tests.{lt-ltb}
 use Rattle.spec.specs.declared.Record.{Record}
 use Rattle.spec.specs.Layout.{bytesOf, groups, size, Block, rowsOf, dataOf, allData, allEntries, written}
 use Rattle.spec.specs.Reading.{limit, blockCount, AreBytes, part, Head, dataSize, recordOf, rowsBefore, bytesBefore, pairs, directoryOf, directoryLength, Given}
+use Rattle.spec.specs.Answers.{broken}
 use Rattle.spec.proofs.Rising.{Rising, rising-length}
 use Rattle.spec.proofs.Questions.{rank-low, rank-all}
+use Rattle.spec.proofs.Asking.{not-broken}
 use Rattle.spec.proofs.RowCount.{groups-length}
 use Rattle.spec.proofs.Content.{length-data}
 use Rattle.spec.proofs.Blocks.{Well, well-rows}
@@ -110,6 +113,18 @@ module _ (file directory : List ℕ) (rec : Record) (h : Head) (gs : List Block)
   pub given-length : length file ≡ rec .«data_start» + length (allData gs) + 4 * length gs + 2
   given-length =
       ap length (given-written .bytes) ∙ length-written (h .count) gs ∙ omega (arith, given-start, ap (λ n. length (groups 4 n)) row-count, length-all-data gs)
+
+  -- it is not BROKEN
+  pub given-unbroken : broken file directory rec ≡ false
+  given-unbroken =
+      let e = row-count in
+      let start = given-start in
+      let g = groups-length 4 (rec .«row_count») in
+      not-broken file directory rec (record {
+        count = omega (arith, given-written .limited);
+        populated = omega (arith, given-populated, rising-length 0 (rec .«row_count») (rowsOf gs) given-rise);
+        words = given-room; total = closing-rows; from = omega arith; upto = omega arith;
+        bytes = omega (arith, closing-bytes, given-length) })
 
   -- the part of the file that holds the data of block b
   module _ (b : ℕ) (l : b < blockCount (rec .«row_count»)) where

@@ -12,3 +12,8 @@ pub mod Written
 pub mod Demands
 pub mod Splits
 pub mod Directory
+pub mod Cases
+pub mod Promises
+pub mod Asking
+pub mod Unique
+pub mod WrongBuilds

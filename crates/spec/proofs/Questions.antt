@@ -27,6 +27,10 @@ member-contains k [] h = absurd (omega arith)
 member-contains zero (x ∷ xs) h = rw (eq-eqb x x refl)
 member-contains (suc k) (x ∷ xs) h = rw (member-contains k xs (omega arith)) (by-test (eqb x (select k xs)) (λ q. rw q) (λ q. rw q))
 
+pub contains-absent : (d : ℕ) (xs : List ℕ) → ((k : ℕ) → k < length xs → select k xs ≡ d → ⊥) → contains d xs ≡ false
+contains-absent d xs h =
+    by-test (contains d xs) (λ e. let m = contains-member d xs e in absurd (h (m .0) (m .1) (m .2))) (λ e. e)
+
 -- of two lists
 pub contains-append : (d : ℕ) (xs ys : List ℕ) → contains d (xs ++ ys) ≡ contains d xs || contains d ys
 unfolding contains
@@ -124,6 +128,9 @@ unfolding below
 all-below n [] h = refl
 all-below n (k ∷ ks) h = true-and (ltb k n) (below n ks) (lt-ltb k n (h 0 (omega arith))) (all-below n ks (λ i l. h (suc i) (omega arith)))
 
+pub below-bad : (n : ℕ) (ks : List ℕ) (i : ℕ) → i < length ks → n ≤ getD ks i 0 → below n ks ≡ false
+below-bad n ks i h l = by-test (below n ks) (λ e. absurd (omega (arith, below-all n ks e i h))) (λ e. e)
+
 pub below-not : (n : ℕ) (ks : List ℕ) → below n ks ≡ false → (i : ℕ) × (i < length ks) × (n ≤ getD ks i 0)
 unfolding below
 below-not n [] e = absurd (true≢false e)
@@ -141,9 +148,7 @@ module _ (low end : ℕ) (xs : List ℕ) (r : Rising low end xs) where
   contains-before d h = by-test (contains d xs) (λ e. absurd (omega (arith, contains-low d e))) (λ e. e)
 
   pub contains-past : (d : ℕ) → end ≤ d → contains d xs ≡ false
-  contains-past d h =
-      by-test (contains d xs)
-      (λ e. let m = contains-member d xs e in absurd (omega (arith, rising-between (m .0) low end xs (m .1) r))) (λ e. e)
+  contains-past d h = contains-absent d xs (λ k l e. omega (arith, rising-between k low end xs l r))
 
   pub lookup-past : (d : ℕ) → end ≤ d → lookup d xs ≡ none
   lookup-past d h = lookup-absent d xs (contains-past d h)
@@ -188,6 +193,13 @@ module _ (low end : ℕ) (xs : List ℕ) (r : Rising low end xs) where
   rank-le-sub d =
       by-contra (rank d xs) (d - low)
       (λ l. omega (arith, rank-below d (d - low) l, rising-from (d - low) low end xs (omega (arith, rank-le d xs)) r))
+
+  -- and no more are at or above d than numbers up to `end`
+  pub rank-rest : (d : ℕ) → length xs ≤ rank d xs + (end - d)
+  rank-rest d =
+      by-contra (length xs) (rank d xs + (end - d))
+      (λ l. omega (arith, rank-above d (rank d xs) (omega arith) (omega arith), rising-steps (rank d xs) (rank d xs + (end - d)) low end xs (omega arith) l r,
+      rising-between (rank d xs + (end - d)) low end xs l r))
 
   -- next is the member at the rank of t
   pub next-select : (t : ℕ) → next t xs ≡ cond (ltb (rank t xs) (length xs)) (some (select (rank t xs) xs)) none

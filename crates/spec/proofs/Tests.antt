@@ -1,6 +1,9 @@
 -- Tests and what follows from them: by cases of a test, `cond`, `&&` and `||`.
+use Prim.Native.Nat.{ℕ}
 use mathlib.Core.Path.{_≡_, refl, ap}
 use mathlib.Core.Bool.{Bool, true, false, _&&_, _||_, cond, true≢false, false≢true}
+use mathlib.Core.Option.{none, some}
+use native.Mathlib.Omega.{arith}
 
 -- by cases of a test, each with its equation
 pub by-test : {A : Type 0} (b : Bool) → (b ≡ true → A) → (b ≡ false → A) → A
@@ -30,3 +33,8 @@ or-false false b e = (refl, e)
 
 pub false-or : (a b : Bool) → a ≡ false → b ≡ false → a || b ≡ false
 false-or a b e f = cc
+
+-- ---- something is not nothing
+
+pub not-none : {A B : Type 0} {a : A} → some a ≡ none → B
+not-none e = let z : _≡_ {A = ℕ} 0 1 = cc in absurd (omega arith)

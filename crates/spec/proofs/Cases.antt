@@ -1,0 +1,56 @@
+-- Document 01's cases P1 to P12 in one table under one statement, computed.
+use Prim.Native.Nat.{ℕ}
+use mathlib.Core.Path.{_≡_, refl}
+use mathlib.Core.List.{List, [], _∷_, flatMap}
+use Rattle.spec.specs.Set.{rising, contains, rank, next, hits, ranks}
+use Rattle.spec.specs.Layout.{bytesOf, groups, blocks, rowsOf, wordFrom, miniBlock, miniBlocks, dataOf, allData, entryOf, allEntries, written, fileOf}
+use Rattle.spec.specs.Reading.{numberIn, part, ungroups, entryIn, entriesAt, entriesOk, dataSizes, sparsePlaces, placesIn, contentOk, contentsOk, blocksAt, Verdict, fault, holds, judge, verdict}
+use Rattle.spec.specs.Answers.{Said, value, nothing, refused, sayRank, saySelect, sayNext, rowFault, sayWrite, once}
+
+pub data Case : Type 0 where
+  writes : ℕ → List ℕ → List ℕ → Case
+  counts : ℕ → List ℕ → Case
+  says : List ℕ → (List ℕ → Said ℕ) → Said ℕ → Case
+  batch : List ℕ → List ℕ → List ℕ → List ℕ → Case
+  refuses : ℕ → List ℕ → ℕ → Case
+
+-- the set of an accepted file
+abbrev pub setIn : Verdict → List ℕ
+setIn (fault k) = []
+setIn (holds h gs) = rowsOf gs
+
+-- rows of a row count, and their file; a row count, and its bytes; a file, a question, and the answer; a file, questions, and the
+-- rows and the ranks of the hits; rows of a row count, and writing's refusal into 100 bytes
+abbrev pub Right : Case → Type 0
+Right (writes count rows file) = fileOf count rows ≡ file
+Right (counts count bs) = groups 4 count ≡ bs
+Right (says file question answer) = once file question ≡ answer
+Right (batch file qs rs ks) = (hits (setIn (verdict file)) qs ≡ rs) × (ranks (setIn (verdict file)) rs ≡ ks)
+Right (refuses count rows k) = sayWrite count rows 100 ≡ refused k
+
+abbrev pub Every : List Case → Type 0
+Every [] = Unit {0}
+Every (c ∷ cs) = Right c × Every cs
+
+abbrev pub p2 : List ℕ
+p2 = 0x8A ∷ 0x01 ∷ 0x00 ∷ 0x05 ∷ 0x00 ∷ 0x00 ∷ 0x00 ∷ 0x01 ∷ 0x00 ∷ 0x01 ∷ 0x00 ∷ []
+
+abbrev pub table : List Case
+table =
+    writes 300 [] (0x2C ∷ 0x82 ∷ 0x00 ∷ 0x00 ∷ [])
+    ∷ writes 10 (1 ∷ 5 ∷ []) p2
+    ∷ writes 65537 (65536 ∷ []) (0x01 ∷ 0x00 ∷ 0x84 ∷ 0x00 ∷ 0x00 ∷ 0x01 ∷ 0x00 ∷ 0x00 ∷ 0x00 ∷ 0x01 ∷ 0x00 ∷ [])
+    ∷ counts 4294901760 (0x00 ∷ 0x00 ∷ 0x7C ∷ 0x7F ∷ 0x8F ∷ [])
+    ∷ says p2 (sayRank 5) (value 1)
+    ∷ says p2 (sayRank 10) (value 2)
+    ∷ says p2 (saySelect 1) (value 5)
+    ∷ says p2 (sayNext 6) nothing
+    ∷ batch p2 (5 ∷ 5 ∷ 1 ∷ 9 ∷ []) (5 ∷ 5 ∷ 1 ∷ []) (1 ∷ 1 ∷ 0 ∷ [])
+    ∷ says (0x2C ∷ 0x02 ∷ 0x80 ∷ 0x00 ∷ 0x00 ∷ []) (sayRank 0) (refused 5)
+    ∷ refuses 10 (4 ∷ 4 ∷ []) 2
+    ∷ refuses 10 (10 ∷ []) 3
+    ∷ []
+
+pub cases : Every table
+unfolding flatMap rising contains rank next hits bytesOf groups blocks rowsOf wordFrom miniBlock miniBlocks dataOf allData entryOf allEntries written fileOf numberIn part ungroups entryIn entriesAt entriesOk dataSizes sparsePlaces placesIn contentOk contentsOk blocksAt judge verdict rowFault sayWrite once
+cases = (refl, (refl, (refl, (refl, (refl, (refl, (refl, (refl, ((refl, refl), (refl, (refl, (refl, tt))))))))))))
