@@ -1,17 +1,16 @@
 -- A written file is accepted, with the row count and the blocks that it was written from.
-use Prim.Native.Nat.{ℕ, zero, suc, _+_, _-_, _*_, _^_, _≤_, _<_}
+use Prim.Native.Nat.{ℕ, suc, _+_, _-_, _*_, _≤_, _<_}
 use mathlib.Core.Path.{_≡_, refl, sym, ap, ap₂, _∙_}
-use mathlib.Core.Bool.{Bool, true, false, _&&_, not}
+use mathlib.Core.Bool.{true, _&&_, not}
 use mathlib.Core.List.{List, [], _∷_, _++_, map, flatMap, append-assoc, append-nil}
 use mathlib.Core.Option.{some}
 use native.Mathlib.Nat.{zero-add}
 use native.Mathlib.Omega.{arith}
 use lib.ListN.{length, length-append}
-use lib.Dec.{leb, ltb}
 use borrow.Author.Tests.{le-ltb, lt-ltb, le-leb, eq-eqb}
 use Rattle.spec.specs.declared.Entry.{Entry}
 use Rattle.spec.specs.Layout.{bytesOf, groups, size, Block, dataOf, allData, entryOf, allEntries, written}
-use Rattle.spec.specs.Reading.{limit, blockCount, rowsAt, numberIn, part, ungroups, padded, entryIn, entriesAt, entriesOk, dataSize, dataSizes, placesIn, contentOk, contentsOk, blocksAt, Verdict, fault, holds, entryCount, entryStart, entriesOf, judge, verdict}
+use Rattle.spec.specs.Reading.{limit, blockCount, rowsAt, numberIn, part, ungroups, entryIn, entriesAt, entriesOk, dataSize, dataSizes, placesIn, contentOk, contentsOk, blocksAt, holds, entryCount, entryStart, entriesOf, judge, verdict}
 use Rattle.spec.proofs.Tests.{cond-no}
 use Rattle.spec.proofs.Bytes.{length-bytes, number-bytes, part-at, regroup, next-part, longer}
 use Rattle.spec.proofs.Rising.{rising-length}
@@ -46,8 +45,8 @@ entry-back g h p l =
     let R = bytesOf 2 (length (g .places) - 1) in
     let n : numberIn (part 0 2 (N ++ R)) ≡ g .number = ap numberIn (part-at [] N R 0 2 refl (omega (arith, length-bytes 2 (g .number)))) ∙ number-bytes 2 (g .number) h in
     let r : numberIn (part 2 4 (N ++ R)) ≡ length (g .places) - 1 =
-          ap (λ l. numberIn (part 2 4 (N ++ l))) (sym (append-nil R))
-          ∙ ap numberIn (part-at N R [] 2 4 (length-bytes 2 (g .number)) (omega (arith, length-bytes 2 (length (g .places) - 1)))) ∙ number-bytes 2 (length (g .places) - 1) (omega arith) in
+    ap (λ l. numberIn (part 2 4 (N ++ l))) (sym (append-nil R))
+    ∙ ap numberIn (part-at N R [] 2 4 (length-bytes 2 (g .number)) (omega (arith, length-bytes 2 (length (g .places) - 1)))) ∙ number-bytes 2 (length (g .places) - 1) (omega arith) in
     let e : numberIn (part 2 4 (N ++ R)) + 1 ≡ length (g .places) = omega arith in
     λ i. record { number = n i; rows = e i }
 
@@ -158,7 +157,7 @@ accepted count gs h w =
     let e = entries-read count gs h w f in
     let l = length-written count gs in
     let s : entryStart (written count gs) - length (groups 4 count) ≡ dataSizes (map entryFor gs) =
-          omega (arith, start-read count gs f, length-append (groups 4 count) (allData gs), length-all-data gs) in
+    omega (arith, start-read count gs f, length-append (groups 4 count) (allData gs), length-all-data gs) in
     ap (judge (written count gs)) (head-read count gs h)
     ∙ cond-no _ _ _ (shortest-unpadded count (allData gs ++ (allEntries gs ++ bytesOf 2 (length gs))) (omega arith))
     ∙ cond-no _ _ _ (le-ltb limit count h)
@@ -166,6 +165,6 @@ accepted count gs h w =
     ∙ cond-no _ _ _ (ap not (ap (entriesOk count 0) e ∙ entries-ok count 0 gs w))
     ∙ cond-no _ _ _ (ap not (eq-eqb _ _ (s ∙ ap dataSizes (sym e))))
     ∙ cond-no _ _ _ (ap not (ap (λ es. contentsOk count es (length (groups 4 count)) (written count gs)) e
-      ∙ contents-ok count 0 (length (groups 4 count)) gs (groups 4 count) (allEntries gs ++ bytesOf 2 (length gs)) w refl))
+    ∙ contents-ok count 0 (length (groups 4 count)) gs (groups 4 count) (allEntries gs ++ bytesOf 2 (length gs)) w refl))
     ∙ ap (holds (headOf count)) (ap (λ es. blocksAt es (length (groups 4 count)) (written count gs)) e
-      ∙ blocks-back count 0 (length (groups 4 count)) gs (groups 4 count) (allEntries gs ++ bytesOf 2 (length gs)) w refl)
+    ∙ blocks-back count 0 (length (groups 4 count)) gs (groups 4 count) (allEntries gs ++ bytesOf 2 (length gs)) w refl)

@@ -1,21 +1,21 @@
 -- Questions over an opened file: 10 in orders, how a promise is met, and what each call then owes.
-use Prim.Native.Nat.{ℕ, _+_, _-_, _*_, _/_, _≤_, _<_, min}
-use mathlib.Core.Path.{_≡_, refl, sym, ap, ap₂, _∙_, subst}
-use mathlib.Core.Bool.{true, false, not, _||_, cond}
+use Prim.Native.Nat.{ℕ, _+_, _-_, _*_, _≤_, _<_, min}
+use mathlib.Core.Path.{_≡_, ap, ap₂, _∙_}
+use mathlib.Core.Bool.{true, false}
 use mathlib.Core.List.{List, _++_}
 use mathlib.Core.Option.{Option, none, some}
 use native.Mathlib.Omega.{arith}
 use lib.ListN.{length, drop, getD, length-map}
-use lib.Dec.{ltb, leb, eqb}
+use lib.Dec.{ltb}
 use borrow.Author.Tests.{ltb-false, eqb-true, not-false, lt-ltb, le-ltb, le-leb, lt-leb, eq-eqb}
 use Rattle.spec.specs.declared.Record.{Record}
-use Rattle.spec.specs.Set.{bit, contains, rank, lookup, select, next, hits, ranks, selects, below, page}
+use Rattle.spec.specs.Set.{bit, contains, rank, lookup, select, next, hits, ranks, selects, page}
 use Rattle.spec.specs.Layout.{Block, rowsOf}
-use Rattle.spec.specs.Reading.{limit, blockCount, directoryLength, Head, Given}
-use Rattle.spec.specs.Answers.{Said, value, nothing, refused, broken, any, due, Owed, Asked, Free, orNothing}
+use Rattle.spec.specs.Reading.{blockCount, Head, Given}
+use Rattle.spec.specs.Answers.{Said, value, nothing, refused, orNothing, broken, Asked, Free}
 use Rattle.spec.specs.Answers.{ContainsOwes, RankOwes, LookupOwes, NextOwes, SelectOwes, LookupBatchOwes, SelectBatchOwes, PageOwes}
-use Rattle.spec.proofs.Tests.{or-false, false-or}
-use Rattle.spec.proofs.Questions.{all-below, below-all, below-bad}
+use Rattle.spec.proofs.Tests.{by-test, or-false}
+use Rattle.spec.proofs.Questions.{all-below, below-bad}
 
 -- ---- 10: exactly where one of these fails
 
@@ -40,38 +40,55 @@ module _ (file directory : List ℕ) (rec : Record) where
       let g = or-false _ _ (f .1) in
       let h = or-false _ _ (g .1) in
       record {
-        count = ltb-false _ _ (a .0); populated = ltb-false _ _ (b .0); words = ltb-false _ _ (c .0); total = eqb-true _ _ (not-false _ (d .0));
-        from = ltb-false _ _ (f .0); upto = ltb-false _ _ (g .0); bytes = ltb-false _ _ (h .0) }
+        count = ltb-false _ _ (a .0);
+        populated = ltb-false _ _ (b .0);
+        words = ltb-false _ _ (c .0);
+        total = eqb-true _ _ (not-false _ (d .0));
+        from = ltb-false _ _ (f .0);
+        upto = ltb-false _ _ (g .0);
+        bytes = ltb-false _ _ (h .0);
+      }
 
   pub not-broken : Unbroken file directory rec → broken file directory rec ≡ false
   unfolding broken
   not-broken u =
-      rw (le-ltb _ _ (u .count), le-ltb _ _ (u .populated), le-ltb _ _ (u .words), eq-eqb _ _ (u .total), le-ltb _ _ (u .from), le-ltb _ _ (u .upto), le-ltb _ _ (u .bytes))
+      rw (
+        le-ltb _ _ (u .count),
+        le-ltb _ _ (u .populated),
+        le-ltb _ _ (u .words),
+        eq-eqb _ _ (u .total),
+        le-ltb _ _ (u .from),
+        le-ltb _ _ (u .upto),
+        le-ltb _ _ (u .bytes),
+      )
 
 -- ---- the order: 10 first, then the late refusal, then the answer
 
-module _ {O : Type 0} (file directory : List ℕ) (rec : Record) (late : Option ℕ) (refuse : ℕ → O) (loose : O → Type 0) (exact : List ℕ → O) (o : O) where
-  -- how the promise is met
-  pub asked-broken : broken file directory rec ≡ true → o ≡ refuse 10 → Asked file directory rec late refuse loose exact o
-  asked-broken e h = rw e h
+module _ {O : Type 0} (file directory : List ℕ) (rec : Record) (late : Option ℕ) (refuse : ℕ → O) (loose : O → Type 0) (exact : List ℕ → O) (o : O)
+  where
+    -- how the promise is met
+    pub asked-broken : broken file directory rec ≡ true → o ≡ refuse 10 → Asked file directory rec late refuse loose exact o
+    asked-broken e h = rw e h
 
-  pub asked-late : (k : ℕ) → broken file directory rec ≡ false → late ≡ some k → o ≡ refuse k → Asked file directory rec late refuse loose exact o
-  asked-late k e f h = rw (e, f) h
+    pub asked-late : (k : ℕ) → broken file directory rec ≡ false → late ≡ some k → o ≡ refuse k
+        → Asked file directory rec late refuse loose exact o
+    asked-late k e f h = rw (e, f) h
 
-  pub asked-none : broken file directory rec ≡ false → late ≡ none → loose o
-      → ((h : Head) (gs : List Block) → Given file directory rec h gs → o ≡ exact (rowsOf gs)) → Asked file directory rec late refuse loose exact o
-  asked-none e f l x = rw (e, f) (l, x)
+    pub asked-none : broken file directory rec ≡ false → late ≡ none → loose o
+        → ((h : Head) (gs : List Block) → Given file directory rec h gs → o ≡ exact (rowsOf gs)) → Asked file directory rec late refuse loose exact o
+    asked-none e f l x = rw (e, f) (l, x)
 
-  -- what the promise says
-  pub broken-asked : broken file directory rec ≡ true → Asked file directory rec late refuse loose exact o → o ≡ refuse 10
-  broken-asked e a = rw e at a
+    -- what the promise says
+    pub broken-asked : broken file directory rec ≡ true → Asked file directory rec late refuse loose exact o → o ≡ refuse 10
+    broken-asked e a = rw e at a
 
-  pub late-asked : (k : ℕ) → broken file directory rec ≡ false → late ≡ some k → Asked file directory rec late refuse loose exact o → o ≡ refuse k
-  late-asked k e f a = rw (e, f) at a
+    pub late-asked : (k : ℕ) → broken file directory rec ≡ false → late ≡ some k → Asked file directory rec late refuse loose exact o
+        → o ≡ refuse k
+    late-asked k e f a = rw (e, f) at a
 
-  pub none-asked : broken file directory rec ≡ false → late ≡ none → Asked file directory rec late refuse loose exact o
-      → loose o × ((h : Head) (gs : List Block) → Given file directory rec h gs → o ≡ exact (rowsOf gs))
-  none-asked e f a = rw (e, f) at a
+    pub none-asked : broken file directory rec ≡ false → late ≡ none → Asked file directory rec late refuse loose exact o
+        → loose o × ((h : Head) (gs : List Block) → Given file directory rec h gs → o ≡ exact (rowsOf gs))
+    none-asked e f a = rw (e, f) at a
 
 -- ---- 10, of each call
 
@@ -93,6 +110,10 @@ module _ (file directory : List ℕ) (rec : Record) (bad : broken file directory
   broken-page r out o a = rw bad at a
 
 -- ---- otherwise
+
+-- of a single question, values, "not there" and "none" are free, and no refusal is
+pub free-says : ((v : ℕ) → Free (value v)) × Free nothing × ((k : ℕ) → Free (refused k) → ⊥)
+free-says = (λ v. tt, tt, λ k f. f)
 
 -- an answer that is no refusal and, where opening gave all three together, the one that the set says
 abbrev pub Told : List ℕ → List ℕ → Record → Said ℕ → (List ℕ → Said ℕ) → Type 0
@@ -122,22 +143,29 @@ module _ (file directory : List ℕ) (rec : Record) (ok : broken file directory 
       (p .0, λ h gs g. p .1 h gs g ∙ rw (lt-leb (length (rowsOf gs)) k (omega (arith, ap (λ x. x .populated) (g .record′)))))
 
   -- 4 exactly where an output is shorter than the question list
-  module _ (questions rows ranks₀ : List ℕ) (o : Said ℕ × List ℕ × List ℕ) (a : LookupBatchOwes file directory rec questions rows ranks₀ o) where
-    pub lookups-late : length rows < length questions → o ≡ (refused 4, rows, ranks₀)
-    lookups-late l = rw (ok, lt-ltb (length rows) (length questions) l) at a
+  module _ (questions rows ranks₀ : List ℕ) (o : Said ℕ × List ℕ × List ℕ) (a : LookupBatchOwes file directory rec questions rows ranks₀ o)
+    where
+      pub lookups-late-rows : length rows < length questions → o ≡ (refused 4, rows, ranks₀)
+      lookups-late-rows l = rw (ok, lt-ltb (length rows) (length questions) l) at a
 
-    pub lookups-late′ : length questions ≤ length rows → length ranks₀ < length questions → o ≡ (refused 4, rows, ranks₀)
-    lookups-late′ l m = rw (ok, le-ltb (length rows) (length questions) l, lt-ltb (length ranks₀) (length questions) m) at a
+      pub lookups-late-ranks : length ranks₀ < length questions → o ≡ (refused 4, rows, ranks₀)
+      lookups-late-ranks l =
+          by-test (ltb (length rows) (length questions)) (λ e. rw (ok, e) at a)
+          (λ e. rw (ok, e, lt-ltb (length ranks₀) (length questions) l) at a)
 
-    pub lookups-owe : length questions ≤ length rows → length questions ≤ length ranks₀
-        → ((n : ℕ) × (o .0 ≡ value n) × (n ≤ length questions) × (drop n (o .1) ≡ drop n rows) × (drop n (o .2) ≡ drop n ranks₀))
-        × ((h : Head) (gs : List Block) → Given file directory rec h gs
+      pub lookups-owe : length questions ≤ length rows → length questions ≤ length ranks₀
+          → ((n : ℕ) × (o .0 ≡ value n) × (n ≤ length questions) × (drop n (o .1) ≡ drop n rows) × (drop n (o .2) ≡ drop n ranks₀))
+          × ((h : Head) (gs : List Block) → Given file directory rec h gs
           → (o .0 ≡ value (length (hits (rowsOf gs) questions)))
           × (o .1 ≡ hits (rowsOf gs) questions ++ drop (length (hits (rowsOf gs) questions)) rows)
           × (o .2 ≡ ranks (rowsOf gs) (hits (rowsOf gs) questions) ++ drop (length (hits (rowsOf gs) questions)) ranks₀))
-    lookups-owe l m =
-        let p = rw (ok, le-ltb (length rows) (length questions) l, le-ltb (length ranks₀) (length questions) m) at a in
-        (p .0, λ h gs g. let e = p .1 h gs g in (ap (λ p. p .0) e, ap (λ p. p .1) e, ap (λ p. p .2) e ∙ rw (length-map (hits (rowsOf gs) questions) (λ q. rank q (rowsOf gs)))))
+      lookups-owe l m =
+          let p = rw (ok, le-ltb (length rows) (length questions) l, le-ltb (length ranks₀) (length questions) m) at a in (
+            p .0,
+            λ h gs g.
+                let e = p .1 h gs g in
+                (ap (λ p. p .0) e, ap (λ p. p .1) e, ap (λ p. p .2) e ∙ rw (length-map (hits (rowsOf gs) questions) (λ q. rank q (rowsOf gs)))),
+          )
 
   -- 9 exactly where one rank is at or above n
   module _ (ks : List ℕ) (o : Said (Unit {0}) × List ℕ) (a : SelectBatchOwes file directory rec ks o) where
@@ -145,7 +173,8 @@ module _ (file directory : List ℕ) (rec : Record) (ok : broken file directory 
     selects-late i l m = rw (ok, below-bad (rec .populated) ks i l m) at a
 
     pub selects-owe : ((i : ℕ) → i < length ks → getD ks i 0 < rec .populated)
-        → (o .0 ≡ value tt) × (length (o .1) ≡ length ks) × ((h : Head) (gs : List Block) → Given file directory rec h gs → o .1 ≡ selects (rowsOf gs) ks)
+        → (o .0 ≡ value tt) × (length (o .1) ≡ length ks)
+        × ((h : Head) (gs : List Block) → Given file directory rec h gs → o .1 ≡ selects (rowsOf gs) ks)
     selects-owe f =
         let p = rw (ok, all-below (rec .populated) ks f) at a in (p .0 .0, p .0 .1, λ h gs g. ap (λ p. p .1) (p .1 h gs g))
 
@@ -158,9 +187,15 @@ module _ (file directory : List ℕ) (rec : Record) (ok : broken file directory 
         → (o .0 ≡ value (min (length out) (rec .populated - r)))
         × (drop (min (length out) (rec .populated - r)) (o .1) ≡ drop (min (length out) (rec .populated - r)) out)
         × ((h : Head) (gs : List Block) → Given file directory rec h gs
-          → o .1 ≡ page r (length out) (rowsOf gs) ++ drop (length (page r (length out) (rowsOf gs))) out)
+        → o .1 ≡ page r (length out) (rowsOf gs) ++ drop (length (page r (length out) (rowsOf gs))) out)
     page-owes l = let p = rw (ok, le-ltb (rec .populated) r l) at a in (p .0 .0, p .0 .1, λ h gs g. ap (λ p. p .1) (p .1 h gs g))
 
-    -- r = n or L = 0 gives 0, and the list stays
-    pub page-none : r ≤ rec .populated → min (length out) (rec .populated - r) ≡ 0 → o ≡ (value 0, out)
+    page-none : r ≤ rec .populated → min (length out) (rec .populated - r) ≡ 0 → o ≡ (value 0, out)
     page-none l e = let p = page-owes l in ap₂ (λ x y. (x, y)) (p .0 ∙ ap value e) (rw e at (p .1))
+
+    -- r = n or L = 0 gives 0, and the list stays
+    pub page-end : r ≡ rec .populated → o ≡ (value 0, out)
+    page-end e = page-none (omega arith) (omega arith)
+
+    pub page-no-room : r ≤ rec .populated → length out ≡ 0 → o ≡ (value 0, out)
+    page-no-room l e = page-none l (omega arith)

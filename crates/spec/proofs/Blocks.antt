@@ -1,5 +1,5 @@
 -- Rows and populated blocks: each is had back from the other.
-use Prim.Native.Nat.{ℕ, zero, suc, _+_, _-_, _*_, _/_, _%_, _≤_, _<_, zero-le, min}
+use Prim.Native.Nat.{ℕ, suc, _+_, _-_, _*_, _/_, _%_, _≤_, _<_, zero-le}
 use mathlib.Core.Path.{_≡_, refl, sym, ap, ap₂, _∙_, subst}
 use mathlib.Core.Bool.{Bool, true, false}
 use mathlib.Core.List.{List, [], _∷_, _++_, map, flatMap}
@@ -10,7 +10,6 @@ use lib.Dec.{eqb}
 use borrow.Author.Tests.{eqb-true, eqb-false, ne-eqb, eq-eqb}
 use Rattle.spec.specs.Layout.{size, Block, join, push, blocks, rowsIn, rowsOf}
 use Rattle.spec.specs.Reading.{blockCount, rowsAt}
-use Rattle.spec.proofs.Tests.{by-test}
 use Rattle.spec.proofs.Rising.{Rising, rising-lower, rising-widen, rising-append}
 
 -- blocks from number `low` on, as a set of rows below `count` has them: numbers increasing and below B, none empty, places increasing
@@ -53,15 +52,19 @@ from-push count low r (g ∷ gs) l h w = go (eqb (r / size) (g .number)) refl
         let q : g .number ≡ r / size = sym (eqb-true (r / size) (g .number) e) in
         let s : suc r - r / size * size ≡ suc (r % size) = omega arith in
         let p : Rising (suc (r % size)) (rowsAt count (r / size)) (g .places) =
-              subst (λ k. Rising k (rowsAt count (r / size)) (g .places)) s (subst (λ b. Rising (suc r - b * size) (rowsAt count b) (g .places)) q (w .3)) in
+        subst (λ k. Rising k (rowsAt count (r / size)) (g .places)) s (subst (λ b. Rising (suc r - b * size) (rowsAt count b) (g .places)) q (w .3)) in
         (omega arith, omega arith, omega arith, (omega arith, omega arith, p), subst (λ b. From count ((b + 1) * size) gs) q (w .4))
     go false e =
         let t : suc r < (g .number + 1) * size = w .2 in
         let k : r / size ≤ g .number = omega arith in
         let k′ : r / size < g .number = lib.Arith.lt-of-le-ne k (eqb-false (r / size) (g .number) e) in
-        let z : suc r - g .number * size ≡ (r / size + 1) * size - g .number * size = omega arith in
-        (omega arith, omega arith, omega arith, (omega arith, omega arith, tt),
-        (w .0, w .1, omega arith, subst (λ k. Rising k (rowsAt count (g .number)) (g .places)) z (w .3), w .4))
+        let z : suc r - g .number * size ≡ (r / size + 1) * size - g .number * size = omega arith in (
+          omega arith,
+          omega arith,
+          omega arith,
+          (omega arith, omega arith, tt),
+          (w .0, w .1, omega arith, subst (λ k. Rising k (rowsAt count (g .number)) (g .places)) z (w .3), w .4),
+        )
 
 from-rows : (count low : ℕ) (rows : List ℕ) → Rising low count rows → From count low (blocks rows)
 unfolding blocks
@@ -70,9 +73,13 @@ from-rows count low (x ∷ xs) r = from-push count low x (blocks xs) (r .0) (r .
 
 from-well : (count low b : ℕ) (gs : List Block) → b * size ≤ low → From count low gs → Well count b gs
 from-well count low b [] h w = tt
-from-well count low b (g ∷ gs) h w =
-    (omega arith, w .0, w .1, rising-lower 0 (low - g .number * size) (rowsAt count (g .number)) (g .places) zero-le (w .3),
-    from-well count ((g .number + 1) * size) (suc (g .number)) gs (omega arith) (w .4))
+from-well count low b (g ∷ gs) h w = (
+  omega arith,
+  w .0,
+  w .1,
+  rising-lower 0 (low - g .number * size) (rowsAt count (g .number)) (g .places) zero-le (w .3),
+  from-well count ((g .number + 1) * size) (suc (g .number)) gs (omega arith) (w .4),
+)
 
 pub well-blocks : (count : ℕ) (rows : List ℕ) → Rising 0 count rows → Well count 0 (blocks rows)
 well-blocks count rows r = from-well count 0 0 (blocks rows) (omega arith) (from-rows count 0 rows r)

@@ -1,5 +1,5 @@
 -- Bytes, little-endian numbers (once over the width), and parts.
-use Prim.Native.Nat.{ℕ, zero, suc, _+_, _-_, _*_, _/_, _%_, _^_, _≤_, _<_, zero-le}
+use Prim.Native.Nat.{ℕ, zero, suc, _+_, _-_, _*_, _/_, _%_, _^_, _≤_, _<_}
 use mathlib.Core.Path.{_≡_, refl, sym, ap, ap₂, _∙_, subst}
 use mathlib.Core.Bool.{Bool, true, false}
 use mathlib.Core.List.{List, [], _∷_, _++_, append-assoc}
@@ -37,6 +37,7 @@ bytes-number (suc w) (b ∷ bs) y e =
   where
     low : (b u : ℕ) → b < 256 → (b + 256 * u) % 256 ≡ b
     low b u h = omega arith
+
     high : (b u : ℕ) → b < 256 → (b + 256 * u) / 256 ≡ u
     high b u h = omega arith
 

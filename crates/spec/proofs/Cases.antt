@@ -54,3 +54,44 @@ table =
 pub cases : Every table
 unfolding flatMap rising contains rank next hits bytesOf groups blocks rowsOf wordFrom miniBlock miniBlocks dataOf allData entryOf allEntries written fileOf numberIn part ungroups entryIn entriesAt entriesOk dataSizes sparsePlaces placesIn contentOk contentsOk blocksAt judge verdict rowFault sayWrite once
 cases = (refl, (refl, (refl, (refl, (refl, (refl, (refl, (refl, ((refl, refl), (refl, (refl, (refl, tt))))))))))))
+
+-- ---- the smallest files that show each refusal of opening, and where two faults meet, the one that comes first
+
+pub data Fault : Type 0 where
+  gives : ℕ → List ℕ → Fault
+
+abbrev pub EveryFault : List Fault → Type 0
+EveryFault [] = Unit {0}
+EveryFault (gives k file ∷ fs) = (verdict file ≡ fault k) × EveryFault fs
+
+abbrev pub faults : List Fault
+faults =
+    -- under 3 bytes; not ended before the last two; not ended within five bytes; padded
+    gives 5 (0x80 ∷ 0x00 ∷ [])
+    ∷ gives 5 (0x0A ∷ 0x80 ∷ 0x80 ∷ [])
+    ∷ gives 5 (0x00 ∷ 0x00 ∷ 0x00 ∷ 0x00 ∷ 0x00 ∷ 0x81 ∷ 0x00 ∷ 0x00 ∷ [])
+    ∷ gives 5 (0x0A ∷ 0x80 ∷ 0x00 ∷ 0x00 ∷ [])
+    -- row count 4,294,901,761; past 32 bits
+    ∷ gives 1 (0x01 ∷ 0x00 ∷ 0x7C ∷ 0x7F ∷ 0x8F ∷ 0x00 ∷ 0x00 ∷ [])
+    ∷ gives 1 (0x00 ∷ 0x00 ∷ 0x00 ∷ 0x00 ∷ 0xFF ∷ 0x00 ∷ 0x00 ∷ [])
+    -- above the limit, with an entry that overlaps the row count
+    ∷ gives 1 (0x01 ∷ 0x00 ∷ 0x7C ∷ 0x7F ∷ 0x8F ∷ 0x01 ∷ 0x00 ∷ [])
+    -- an entry that overlaps the row count; a block number at B; one that does not increase; 11 rows of 10
+    ∷ gives 6 (0x8A ∷ 0x00 ∷ 0x00 ∷ 0x00 ∷ 0x01 ∷ 0x00 ∷ [])
+    ∷ gives 6 (0x8A ∷ 0x00 ∷ 0x00 ∷ 0x01 ∷ 0x00 ∷ 0x00 ∷ 0x00 ∷ 0x01 ∷ 0x00 ∷ [])
+    ∷ gives 6 (0x8A ∷ 0x01 ∷ 0x00 ∷ 0x02 ∷ 0x00 ∷ 0x00 ∷ 0x00 ∷ 0x00 ∷ 0x00 ∷ 0x00 ∷ 0x00 ∷ 0x00 ∷ 0x00 ∷ 0x02 ∷ 0x00 ∷ [])
+    ∷ gives 6 (0x81 ∷ 0x00 ∷ 0x00 ∷ 0x01 ∷ 0x00 ∷ 0x00 ∷ 0x00 ∷ 0x01 ∷ 0x00 ∷ 0x01 ∷ 0x00 ∷ [])
+    -- a block number at B, with no data for it
+    ∷ gives 6 (0x8A ∷ 0x01 ∷ 0x00 ∷ 0x00 ∷ 0x00 ∷ 0x01 ∷ 0x00 ∷ [])
+    -- a byte too many; a byte too few, of places that do not increase
+    ∷ gives 7 (0x8A ∷ 0x07 ∷ 0x00 ∷ 0x00 ∷ [])
+    ∷ gives 7 (0x8A ∷ 0x05 ∷ 0x00 ∷ 0x05 ∷ 0x00 ∷ 0x00 ∷ 0x01 ∷ 0x00 ∷ 0x01 ∷ 0x00 ∷ [])
+    -- places that do not increase; a row at the row count; a 6 in a later block comes before this 8
+    ∷ gives 8 (0x8A ∷ 0x05 ∷ 0x00 ∷ 0x05 ∷ 0x00 ∷ 0x00 ∷ 0x00 ∷ 0x01 ∷ 0x00 ∷ 0x01 ∷ 0x00 ∷ [])
+    ∷ gives 8 (0x8A ∷ 0x0A ∷ 0x00 ∷ 0x00 ∷ 0x00 ∷ 0x00 ∷ 0x00 ∷ 0x01 ∷ 0x00 ∷ [])
+    ∷ gives 6 (0x8A ∷ 0x0A ∷ 0x00 ∷ 0x00 ∷ 0x00 ∷ 0x00 ∷ 0x00 ∷ 0x00 ∷ 0x00 ∷ 0x01 ∷ 0x00 ∷ 0x00 ∷ 0x00 ∷ 0x02 ∷ 0x00 ∷ [])
+    ∷ []
+
+pub faulty : EveryFault faults
+unfolding flatMap rising rank numberIn part ungroups entryIn entriesAt entriesOk dataSizes sparsePlaces placesIn contentOk contentsOk blocksAt judge verdict
+faulty = (refl, (refl, (refl, (refl, (refl, (refl, (refl, (refl, (refl, (refl, (refl, (refl, (refl, (refl, (refl, (refl, (refl, tt)))))))))))))))))

@@ -1,16 +1,16 @@
 -- A block's data: read back as written, and data found right were written.
-use Prim.Native.Nat.{ℕ, zero, suc, _+_, _-_, _*_, _^_, _≤_, _<_, zero-le}
-use mathlib.Core.Path.{_≡_, refl, sym, ap, ap₂, _∙_, subst}
+use Prim.Native.Nat.{ℕ, zero, suc, _+_, _-_, _*_, _^_, _≤_, _<_}
+use mathlib.Core.Path.{_≡_, refl, sym, ap, ap₂, _∙_}
 use mathlib.Core.Bool.{Bool, true, false, _&&_, cond}
 use mathlib.Core.List.{List, [], _∷_, _++_, flatMap, append-assoc, append-nil}
 use native.Mathlib.Omega.{arith}
 use lib.ListN.{length, length-append}
-use lib.Dec.{leb, ltb, eqb}
+use lib.Dec.{eqb}
 use borrow.Author.Tests.{le-leb, lt-leb, eqb-true, eq-eqb}
-use Rattle.spec.specs.Set.{rising, rank, contains}
-use Rattle.spec.specs.Layout.{bytesOf, size, sparseData, wordFrom, word, miniBlock, miniBlocks, dense, dataOf, entryOf}
+use Rattle.spec.specs.Set.{rising, rank}
+use Rattle.spec.specs.Layout.{bytesOf, size, sparseData, word, miniBlock, miniBlocks, dense, dataOf, entryOf}
 use Rattle.spec.specs.Reading.{AreBytes, numberIn, part, dataSize, sparsePlaces, bits, wordAt, countAt, densePlaces, placesIn, countsOk, contentOk}
-use Rattle.spec.proofs.Tests.{cond-yes, cond-no, and-true}
+use Rattle.spec.proofs.Tests.{and-true}
 use Rattle.spec.proofs.Bytes.{length-bytes, number-bytes, part-at, part-join, part-none, part-all, part-number, part-number-lt, regroup, next-part, longer}
 use Rattle.spec.proofs.Rising.{Rising, rising-facts, rising-true, rising-widen, rising-append}
 use Rattle.spec.proofs.Questions.{rank-le-sub, rank-rest}
@@ -167,8 +167,8 @@ dense-written (suc f) m to pre bs r y e l k =
     let a : 64 * suc m ≡ 64 * m + 64 = omega arith in
     let b : 10 * suc m ≡ 10 * m + 10 = omega arith in
     let w : word m (pre ++ (B ++ rest)) ≡ wordAt m bs =
-          word-bits 64 (64 * m) (64 * (suc m + f)) (wordAt m bs) pre rest
-          (part-number-lt 8 (10 * m) (10 * m + 8) bs y (omega arith) (omega arith)) r (rw a at (dense-rising f (suc m) bs)) in
+    word-bits 64 (64 * m) (64 * (suc m + f)) (wordAt m bs) pre rest
+    (part-number-lt 8 (10 * m) (10 * m + 8) bs y (omega arith) (omega arith)) r (rw a at (dense-rising f (suc m) bs)) in
     ap₂ (λ a b. a ++ b)
     (ap₂ (λ a b. bytesOf 8 a ++ bytesOf 2 b) w (sym (eqb-true _ _ (ok .0)))
     ∙ ap₂ (λ a b. a ++ b) (part-number 8 (10 * m) (10 * m + 8) bs y (omega arith) (omega arith)) (part-number 2 (10 * m + 8) (10 * m + 10) bs y (omega arith) (omega arith))

@@ -1,19 +1,17 @@
 -- Opening accepts exactly the strings that writing gives, and recovers row count and set.
-use Prim.Native.Nat.{ℕ, zero, suc, _+_, _*_, _/_, _%_, _≤_, _<_}
-use mathlib.Core.Path.{_≡_, refl, sym, ap, _∙_}
-use mathlib.Core.Bool.{Bool, true, false, cond}
-use mathlib.Core.List.{List, [], _∷_, _++_, map, flatMap}
+use Prim.Native.Nat.{ℕ, _*_, _≤_}
+use mathlib.Core.Path.{_≡_, sym, ap, _∙_}
+use mathlib.Core.Bool.{true}
+use mathlib.Core.List.{List, [], _∷_, map}
 use native.Mathlib.Omega.{arith}
 use lib.ListN.{length}
-use lib.Dec.{leb}
-use borrow.Author.Tests.{leb-true}
 use Rattle.spec.specs.Set.{rising}
 use Rattle.spec.specs.Layout.{Block, blocks, rowsOf, dense, written, fileOf}
 use Rattle.spec.specs.Reading.{limit, AreBytes, Head, dataSize, dataSizes, holds, verdict}
 use Rattle.spec.proofs.Tests.{by-test}
 use Rattle.spec.proofs.Rising.{rising-facts, rising-true}
 use Rattle.spec.proofs.RowCount.{groups-length, headOf}
-use Rattle.spec.proofs.Blocks.{Well, rows-blocks, blocks-rows, well-blocks, well-rows, well-length}
+use Rattle.spec.proofs.Blocks.{rows-blocks, blocks-rows, well-blocks, well-rows, well-length}
 use Rattle.spec.proofs.Accepted.{entryFor, length-written, accepted}
 use Rattle.spec.proofs.Written.{was-written}
 
@@ -34,9 +32,12 @@ pub accepted-written : (file : List ℕ) (h : Head) (gs : List Block) → AreByt
 unfolding fileOf
 accepted-written file h gs y v =
     let w = was-written file h gs y v in
-    let b = blocks-rows (h .count) 0 gs (w .well) in
-    (record { limited = w .limited; rises = rising-true 0 (h .count) (rowsOf gs) (well-rows (h .count) 0 gs (w .well)) },
-    w .bytes ∙ ap (written (h .count)) (sym b), w .head, sym b)
+    let b = blocks-rows (h .count) 0 gs (w .well) in (
+      record { limited = w .limited; rises = rising-true 0 (h .count) (rowsOf gs) (well-rows (h .count) 0 gs (w .well)) },
+      w .bytes ∙ ap (written (h .count)) (sym b),
+      w .head,
+      sym b,
+    )
 
 -- a written file determines row count and set
 pub written-one : (c d : ℕ) (xs ys : List ℕ) → Permitted c xs → Permitted d ys → fileOf c xs ≡ fileOf d ys → (c ≡ d) × (xs ≡ ys)

@@ -1,20 +1,20 @@
 -- What opening gave together: the directory's words, and the part of the file that holds a block's data.
-use Prim.Native.Nat.{ℕ, zero, suc, _+_, _-_, _*_, _/_, _≤_, _<_}
-use mathlib.Core.Path.{_≡_, refl, sym, ap, ap₂, _∙_, subst}
+use Prim.Native.Nat.{ℕ, zero, suc, _+_, _*_, _≤_, _<_}
+use mathlib.Core.Path.{_≡_, refl, sym, ap, _∙_}
 use mathlib.Core.Bool.{false}
-use mathlib.Core.List.{List, [], _∷_, _++_, map}
+use mathlib.Core.List.{List, [], _∷_, _++_}
 use native.Mathlib.Nat.{zero-add}
 use native.Mathlib.Omega.{arith}
-use lib.ListN.{length, getD, take, length-append, length-take}
+use lib.ListN.{length, getD, length-append, length-take}
 use lib.Seq.{getD-take}
-use lib.Dec.{ltb}
 use borrow.Author.Tests.{lt-ltb}
 use Rattle.spec.specs.declared.Record.{Record}
 use Rattle.spec.specs.Layout.{bytesOf, groups, size, Block, rowsOf, dataOf, allData, allEntries, written}
-use Rattle.spec.specs.Reading.{limit, blockCount, AreBytes, part, Head, dataSize, recordOf, rowsBefore, bytesBefore, pairs, directoryOf, directoryLength, Given}
+use Rattle.spec.specs.Reading.{blockCount, AreBytes, part, Head, rowsBefore, bytesBefore, pairs, directoryOf, directoryLength, Given}
 use Rattle.spec.specs.Answers.{broken}
 use Rattle.spec.proofs.Rising.{Rising, rising-length}
 use Rattle.spec.proofs.Questions.{rank-low, rank-all}
+use Rattle.spec.proofs.Promises.{length-directory}
 use Rattle.spec.proofs.Asking.{not-broken}
 use Rattle.spec.proofs.RowCount.{groups-length}
 use Rattle.spec.proofs.Content.{length-data}
@@ -25,15 +25,6 @@ use Rattle.spec.proofs.Splits.{placesOf, bytes-before-next, bytes-befor
 
 -- ---- the directory's words
 
-length-pairs : (f b : ℕ) (gs : List Block) → length (pairs f b gs) ≡ 2 * f
-unfolding pairs
-length-pairs zero b gs = refl
-length-pairs (suc f) b gs = let i = length-pairs f (suc b) gs in omega arith
-
-pub length-directory : (count : ℕ) (gs : List Block) → length (directoryOf count gs) ≡ directoryLength count
-unfolding directoryOf
-length-directory count gs = length-pairs (suc (blockCount count)) 0 gs ∙ omega arith
-
 pair-at : (f b k : ℕ) (gs : List Block) → k < f
     → (getD (pairs f b gs) (2 * k) 0 ≡ rowsBefore (b + k) gs) × (getD (pairs f b gs) (2 * k + 1) 0 ≡ bytesBefore (b + k) gs)
 unfolding pairs
@@ -43,9 +34,10 @@ pair-at (suc f) b (suc k) gs h =
     let i = pair-at f (suc b) k gs (omega arith) in
     let e : suc b + k ≡ b + suc k = omega arith in
     let m : 2 * suc k ≡ suc (suc (2 * k)) = omega arith in
-    let n : 2 * suc k + 1 ≡ suc (suc (2 * k + 1)) = omega arith in
-    (ap (λ n. getD (pairs (suc f) b gs) n 0) m ∙ i .0 ∙ ap (λ n. rowsBefore n gs) e,
-    ap (λ n. getD (pairs (suc f) b gs) n 0) n ∙ i .1 ∙ ap (λ n. bytesBefore n gs) e)
+    let n : 2 * suc k + 1 ≡ suc (suc (2 * k + 1)) = omega arith in (
+      ap (λ n. getD (pairs (suc f) b gs) n 0) m ∙ i .0 ∙ ap (λ n. rowsBefore n gs) e,
+      ap (λ n. getD (pairs (suc f) b gs) n 0) n ∙ i .1 ∙ ap (λ n. bytesBefore n gs) e,
+    )
 
 -- all data are before block B
 bytes-all : (count low b : ℕ) (gs : List Block) → blockCount count ≤ b → Well count low gs → bytesBefore b gs ≡ length (allData gs)
@@ -123,8 +115,12 @@ module _ (file directory : List ℕ) (rec : Record) (h : Head) (gs : List Block)
       not-broken file directory rec (record {
         count = omega (arith, given-written .limited);
         populated = omega (arith, given-populated, rising-length 0 (rec .«row_count») (rowsOf gs) given-rise);
-        words = given-room; total = closing-rows; from = omega arith; upto = omega arith;
-        bytes = omega (arith, closing-bytes, given-length) })
+        words = given-room;
+        total = closing-rows;
+        from = omega arith;
+        upto = omega arith;
+        bytes = omega (arith, closing-bytes, given-length);
+      })
 
   -- the part of the file that holds the data of block b
   module _ (b : ℕ) (l : b < blockCount (rec .«row_count»)) where
@@ -144,4 +140,4 @@ module _ (file directory : List ℕ) (rec : Record) (h : Head) (gs : List Block)
         rw (word-bytes b (omega arith), next-word)
         (ap (part (rec .«data_start» + bytesBefore b gs) (rec .«data_start» + bytesBefore (b + 1) gs)) (given-written .bytes)
         ∙ block-data (rec .«row_count») gs given-well b (rec .«data_start») (groups 4 (h .count)) (allEntries gs ++ bytesOf 2 (length gs))
-          (ap (λ n. length (groups 4 n)) (sym row-count) ∙ sym given-start))
+        (ap (λ n. length (groups 4 n)) (sym row-count) ∙ sym given-start))

@@ -11,9 +11,10 @@ pub mod Accepted
 pub mod Written
 pub mod Demands
 pub mod Splits
-pub mod Directory
-pub mod Cases
+pub mod Numbers
 pub mod Promises
 pub mod Asking
 pub mod Unique
+pub mod Directory
+pub mod Cases
 pub mod WrongBuilds

@@ -1,7 +1,7 @@
 -- What writing, opening and the one-shot forms owe, said a second time: with orders where the definitions have tests.
-use Prim.Native.Nat.{ℕ, zero, suc, _+_, _*_, _/_, _^_, _≤_, _<_}
+use Prim.Native.Nat.{ℕ, zero, suc, _+_, _*_, _≤_, _<_}
 use mathlib.Core.Path.{_≡_, refl, sym, ap, _∙_}
-use mathlib.Core.List.{List, [], _∷_, _++_, map}
+use mathlib.Core.List.{List, [], _∷_, _++_}
 use mathlib.Core.Option.{none, some}
 use native.Mathlib.Omega.{arith}
 use lib.ListN.{length, getD, take, drop}
@@ -9,21 +9,14 @@ use lib.Seq.{take-at, take-append-seam, drop-append-seam, length-front, length-t
 use lib.Dec.{leb, ltb}
 use borrow.Author.Tests.{ltb-true, ltb-false, leb-false, le-leb, lt-leb, lt-ltb, le-ltb}
 use Rattle.spec.specs.declared.Record.{Record}
-use Rattle.spec.specs.declared.Refusal.{Refusal}
-use Rattle.spec.specs.declared.Refusal.the-variants.{Rows, Order, Range, Room, Header, Entries, Length, Content, Rank, Broken}
-use Rattle.spec.specs.declared.Answer.the-variants as Answer
-use Rattle.spec.specs.declared.Number.the-variants as Number
-use Rattle.spec.specs.declared.Found.the-variants as Found
-use Rattle.spec.specs.declared.Count.the-variants as Count
-use Rattle.spec.specs.declared.Done.the-variants as Done
-use Rattle.spec.specs.declared.Opened.the-variants as Opened
 use Rattle.spec.specs.Set.{select}
 use Rattle.spec.specs.Layout.{Block, rowsOf, fileOf}
 use Rattle.spec.specs.Reading.{limit, blockCount, Head, Verdict, fault, holds, verdict, pairs, directoryOf, Given}
-use Rattle.spec.specs.Answers.{Said, value, nothing, refused, number, answered, numbered, found, counted, done, opened, code, front}
+use Rattle.spec.specs.Answers.{Said, value, nothing, refused, code, front, kept}
 use Rattle.spec.specs.Answers.{rowFault, sayWrite, WriteOwes, sayOpen, OpenOwes, once, OnceOwes, CallOwes}
 use Rattle.spec.specs.Answers.{sayContains, sayRank, sayLookup, saySelect, sayNext}
 use Rattle.spec.proofs.Tests.{by-test, not-none}
+use Rattle.spec.proofs.Numbers.{not-refused}
 use Rattle.spec.proofs.Rising.{Rising}
 use Rattle.spec.proofs.Questions.{contains-absent, member-contains, rank-is, rank-select, next-is}
 
@@ -36,57 +29,6 @@ limit-is = refl
 -- B is the row count divided by 65,536, rounded up
 pub blockCount-up : (count : ℕ) → (count ≤ blockCount count * 65536) × (blockCount count * 65536 < count + 65536)
 blockCount-up count = omega arith
-
--- ---- each answer's number and values
-
-abbrev pub refusals : List Refusal
-refusals = Rows ∷ Order ∷ Range ∷ Room ∷ Header ∷ Entries ∷ Length ∷ Content ∷ Rank ∷ Broken ∷ []
-
-pub numbers : map number refusals ≡ 1 ∷ 2 ∷ 3 ∷ 4 ∷ 5 ∷ 6 ∷ 7 ∷ 8 ∷ 9 ∷ 10 ∷ []
-numbers = refl
-
-pub answered-says : (answered Answer.Yes ≡ value 1) × (answered Answer.No ≡ value 0) × ((e : Refusal) → answered (Answer.Refused e) ≡ refused (number e))
-answered-says = (refl, refl, λ e. refl)
-
-pub numbered-says : ((v : ℕ) → numbered (Number.Is v) ≡ value v) × ((e : Refusal) → numbered (Number.Refused e) ≡ refused (number e))
-numbered-says = (λ v. refl, λ e. refl)
-
-pub found-says : ((v : ℕ) → found (Found.At v) ≡ value v) × (found Found.Nothing ≡ nothing) × ((e : Refusal) → found (Found.Refused e) ≡ refused (number e))
-found-says = (λ v. refl, refl, λ e. refl)
-
-pub counted-says : ((v : ℕ) → counted (Count.Is v) ≡ value v) × ((e : Refusal) → counted (Count.Refused e) ≡ refused (number e))
-counted-says = (λ v. refl, λ e. refl)
-
-pub done-says : (done Done.Yes ≡ value tt) × ((e : Refusal) → done (Done.Refused e) ≡ refused (number e))
-done-says = (refl, λ e. refl)
-
-pub opened-says : ((rec : Record) → opened (Opened.Index rec) ≡ value rec) × ((e : Refusal) → opened (Opened.Refused e) ≡ refused (number e))
-opened-says = (λ rec. refl, λ e. refl)
-
-pub not-refused : {A B : Type 0} {v : A} {k : ℕ} → value v ≡ refused k → B
-not-refused e = let z : _≡_ {A = ℕ} 0 1 = cc in absurd (omega arith)
-
--- the C calls' number: 2 ^ 32 is "none", and above it are the refusals
-pub code-says : ((v : ℕ) → code (value v) ≡ v) × (code nothing ≡ 2 ^ 32) × ((k : ℕ) → code (refused k) ≡ 2 ^ 32 + k)
-code-says = (λ v. refl, refl, λ k. refl)
-
--- what a call may say: a 32-bit value, nothing, or a refusal by its number
-abbrev pub Coded : Said ℕ → Type 0
-Coded (value v) = v < 2 ^ 32
-Coded nothing = Unit {0}
-Coded (refused k) = 0 < k
-
--- the numbers of different answers differ
-pub code-apart : (s t : Said ℕ) → Coded s → Coded t → code s ≡ code t → s ≡ t
-code-apart (value v) (value w) p q e = cc
-code-apart (value v) nothing p q e = absurd (omega arith)
-code-apart (value v) (refused k) p q e = absurd (omega arith)
-code-apart nothing (value w) p q e = absurd (omega arith)
-code-apart nothing nothing p q e = refl
-code-apart nothing (refused k) p q e = absurd (omega arith)
-code-apart (refused j) (value w) p q e = absurd (omega arith)
-code-apart (refused j) nothing p q e = absurd (omega arith)
-code-apart (refused j) (refused k) p q e = let z : j ≡ k = omega arith in ap refused z
 
 -- ---- write: 1; then rows from the first, the first faulty row deciding, 2 before 3; then 4
 
@@ -108,7 +50,7 @@ none-rising count low [] e = tt
 none-rising count low (x ∷ xs) e =
     by-test (ltb x low) (λ p. not-none (rw p at e))
     (λ p. by-test (leb count x) (λ q. not-none (rw (p, q) at e))
-      (λ q. (ltb-false x low p, leb-false count x q, none-rising count (suc x) xs (rw (p, q) at e))))
+    (λ q. (ltb-false x low p, leb-false count x q, none-rising count (suc x) xs (rw (p, q) at e))))
 
 -- 1: the row count is above the limit
 pub write-rows : (count room : ℕ) (rows : List ℕ) → 4294901760 < count → sayWrite count rows room ≡ refused 1
@@ -156,12 +98,21 @@ module _ (count k : ℕ) (rows out : List ℕ) (o : Said ℕ × List ℕ) (w : W
   pub write-lays : o .0 ≡ value k → o .1 ≡ fileOf count rows ++ drop (length (fileOf count rows)) out
   write-lays e = ap (λ p. p .1) w ∙ rw (sym (ap (λ p. p .0) w) ∙ e)
 
+-- ---- lent buffers
+
+-- a buffer is as it was, but after a value
+pub kept-says : (A : Type 0) (new old : List ℕ) → ((v : A) → kept (value v) new old ≡ front new old)
+    × (kept {A = A} nothing new old ≡ old) × ((k : ℕ) → kept {A = A} (refused k) new old ≡ old)
+kept-says A new old = (λ v. refl, refl, λ k. refl)
+
 -- what lies at the front is the new, past it is the old, and no list grows
 pub front-says : (new old : List ℕ) → length new ≤ length old
     → (take (length new) (front new old) ≡ new) × (drop (length new) (front new old) ≡ drop (length new) old) × (length (front new old) ≡ length old)
-front-says new old h =
-    (take-append-seam new (drop (length new) old), drop-append-seam new (drop (length new) old),
-    length-front old new (length new) (sym (length-take-le (length new) old h)))
+front-says new old h = (
+  take-append-seam new (drop (length new) old),
+  drop-append-seam new (drop (length new) old),
+  length-front old new (length new) (sym (length-take-le (length new) old h)),
+)
 
 -- ---- open: 5, 1, 6, 7, 8, 4
 
@@ -179,8 +130,10 @@ module _ (file directory : List ℕ) (o : Said Record × List ℕ) (w : OpenOwes
 
     -- otherwise the record; the directory lies at the front, further words stay
     pub open-index : 2 * (blockCount (h .count) + 1) ≤ length directory
-        → o ≡ (value (record { «row_count» = h .count; populated = length (rowsOf gs); «data_start» = h .start }),
-        directoryOf (h .count) gs ++ drop (length (directoryOf (h .count) gs)) directory)
+        → o ≡ (
+          value (record { «row_count» = h .count; populated = length (rowsOf gs); «data_start» = h .start }),
+          directoryOf (h .count) gs ++ drop (length (directoryOf (h .count) gs)) directory,
+        )
     unfolding sayOpen
     open-index l = w ∙ rw (v, le-ltb (length directory) (2 * (blockCount (h .count) + 1)) l)
 
@@ -205,11 +158,16 @@ open-given file directory directory′ rec w = go (verdict file) refl
         by-test (ltb (length directory) n)
         (λ q. not-refused (ap (λ p. p .0) (open-room file directory (value rec, directory′) w h gs v (ltb-true (length directory) n q))))
         (λ q.
-          let e = open-index file directory (value rec, directory′) w h gs v (ltb-false (length directory) n q) in
-          let f = ap (λ p. p .0) e in
-          (h, gs, record {
-            accepted = v; record′ = cc;
-            words = ap (λ p. take n (p .1)) e ∙ take-at (directoryOf (h .count) gs) _ n (length-directory (h .count) gs) }))
+        let e = open-index file directory (value rec, directory′) w h gs v (ltb-false (length directory) n q) in
+        let f = ap (λ p. p .0) e in (
+          h,
+          gs,
+          record {
+            accepted = v;
+            record′ = cc;
+            words = ap (λ p. take n (p .1)) e ∙ take-at (directoryOf (h .count) gs) _ n (length-directory (h .count) gs);
+          },
+        ))
 
 -- ---- one-shot forms, and the C calls: opening's checks, and then the answer
 

@@ -27,6 +27,7 @@ member-contains k [] h = absurd (omega arith)
 member-contains zero (x ∷ xs) h = rw (eq-eqb x x refl)
 member-contains (suc k) (x ∷ xs) h = rw (member-contains k xs (omega arith)) (by-test (eqb x (select k xs)) (λ q. rw q) (λ q. rw q))
 
+-- if no element is d, d is not in the list
 pub contains-absent : (d : ℕ) (xs : List ℕ) → ((k : ℕ) → k < length xs → select k xs ≡ d → ⊥) → contains d xs ≡ false
 contains-absent d xs h =
     by-test (contains d xs) (λ e. let m = contains-member d xs e in absurd (h (m .0) (m .1) (m .2))) (λ e. e)
@@ -198,8 +199,12 @@ module _ (low end : ℕ) (xs : List ℕ) (r : Rising low end xs) where
   pub rank-rest : (d : ℕ) → length xs ≤ rank d xs + (end - d)
   rank-rest d =
       by-contra (length xs) (rank d xs + (end - d))
-      (λ l. omega (arith, rank-above d (rank d xs) (omega arith) (omega arith), rising-steps (rank d xs) (rank d xs + (end - d)) low end xs (omega arith) l r,
-      rising-between (rank d xs + (end - d)) low end xs l r))
+      (λ l. omega (
+        arith,
+        rank-above d (rank d xs) (omega arith) (omega arith),
+        rising-steps (rank d xs) (rank d xs + (end - d)) low end xs (omega arith) l r,
+        rising-between (rank d xs + (end - d)) low end xs l r,
+      ))
 
   -- next is the member at the rank of t
   pub next-select : (t : ℕ) → next t xs ≡ cond (ltb (rank t xs) (length xs)) (some (select (rank t xs) xs)) none
@@ -218,10 +223,13 @@ module _ (low end : ℕ) (xs : List ℕ) (r : Rising low end xs) where
   next-found t s e =
       by-test (ltb (rank t xs) (length xs))
       (λ q.
-        let l = ltb-true (rank t xs) (length xs) q in
-        let is : s ≡ select (rank t xs) xs = cc (next-select t) in
-        rw is (member-contains (rank t xs) xs l, rank-above t (rank t xs) (omega arith) l,
-          λ m c h. omega (arith, select-rank m c, rising-steps (rank t xs) (rank m xs) low end xs (rank-mono t m xs h) (rank-lt m c) r)))
+      let l = ltb-true (rank t xs) (length xs) q in
+      let is : s ≡ select (rank t xs) xs = cc (next-select t) in
+      rw is (
+        member-contains (rank t xs) xs l,
+        rank-above t (rank t xs) (omega arith) l,
+        λ m c h. omega (arith, select-rank m c, rising-steps (rank t xs) (rank m xs) low end xs (rank-mono t m xs h) (rank-lt m c) r),
+      ))
       (λ q. let z : _≡_ {A = ℕ} 0 1 = cc (next-select t) in absurd (omega arith))
 
   -- "none" says that no member is at or after t
@@ -229,4 +237,4 @@ module _ (low end : ℕ) (xs : List ℕ) (r : Rising low end xs) where
   next-none t e m c =
       by-test (ltb (rank t xs) (length xs)) (λ q. let z : _≡_ {A = ℕ} 0 1 = cc (next-select t) in absurd (omega arith))
       (λ q. let l = ltb-false (rank t xs) (length xs) q in
-        omega (arith, select-rank m c, rank-below t (rank m xs) (omega (arith, rank-lt m c))))
+      omega (arith, select-rank m c, rank-below t (rank m xs) (omega (arith, rank-lt m c))))

@@ -112,8 +112,11 @@ one-byte : (f b : ℕ) (bs : List ℕ) → 128 ≤ b → b < 256 → Headed f (b
 one-byte f b bs l y =
     let e : groups f (b - 128) ≡ b ∷ [] = groups-small f (b - 128) (omega arith) ∙ ap (λ k. k ∷ []) back in
     record {
-      from = omega arith; upto = omega arith; ends = λ z. omega arith;
-      shortest = λ p. (ap (λ l. l ++ bs) (sym e), ap length (sym e)) }
+      from = omega arith;
+      upto = omega arith;
+      ends = λ z. omega arith;
+      shortest = λ p. (ap (λ l. l ++ bs) (sym e), ap length (sym e));
+    }
   where
     back : b - 128 + 128 ≡ b
     back = omega arith
@@ -123,20 +126,26 @@ more-byte : (f b : ℕ) (bs : List ℕ) (h : Head) → b < 128 → Headed f bs h
 more-byte f b bs h l d =
     let s = behind b bs (h .start) (d .from) in
     record {
-      from = omega arith; upto = omega (arith, d .upto); ends = λ z. s ∙ d .ends (omega arith);
+      from = omega arith;
+      upto = omega (arith, d .upto);
+      ends = λ z. s ∙ d .ends (omega arith);
       shortest = λ p.
-        let q = d .shortest (λ z. absurd (alone (p (s ∙ z)))) in
-        let e : groups (suc f) (b + 128 * h .count) ≡ b ∷ groups f (h .count) =
-              groups-large f (b + 128 * h .count) (large (h .count) refl (λ z. p (s ∙ d .ends z))) ∙ ap₂ (λ x n. x ∷ groups f n) low high in
-        (ap (λ t. b ∷ t) (q .0) ∙ ap (λ t. t ++ drop (h .start) bs) (sym e), ap suc (q .1) ∙ ap length (sym e)) }
+          let q = d .shortest (λ z. absurd (alone (p (s ∙ z)))) in
+          let e : groups (suc f) (b + 128 * h .count) ≡ b ∷ groups f (h .count) =
+          groups-large f (b + 128 * h .count) (large (h .count) refl (λ z. p (s ∙ d .ends z))) ∙ ap₂ (λ x n. x ∷ groups f n) low high in
+          (ap (λ t. b ∷ t) (q .0) ∙ ap (λ t. t ++ drop (h .start) bs) (sym e), ap suc (q .1) ∙ ap length (sym e));
+    }
   where
     alone : suc (h .start) ≡ 1 → ⊥
     alone e = omega (arith, d .from)
+
     large : (k : ℕ) → h .count ≡ k → (h .count ≡ 0 → suc (h .start) ≡ 1) → 128 ≤ b + 128 * h .count
     large zero z p = absurd (alone (p z))
     large (suc k) z p = omega arith
+
     low : (b + 128 * h .count) % 128 ≡ b
     low = omega arith
+
     high : (b + 128 * h .count) / 128 ≡ h .count
     high = omega arith
 

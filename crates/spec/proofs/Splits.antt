@@ -1,6 +1,6 @@
 -- A question of the set is one of a block: the rows and the data of well-formed blocks, cut at block b.
-use Prim.Native.Nat.{ℕ, zero, suc, _+_, _-_, _*_, _/_, _%_, _≤_, _<_, zero-le}
-use mathlib.Core.Path.{_≡_, refl, sym, ap, ap₂, _∙_, subst}
+use Prim.Native.Nat.{ℕ, zero, suc, _+_, _*_, _/_, _%_, _≤_, _<_}
+use mathlib.Core.Path.{_≡_, refl, sym, ap, ap₂, _∙_}
 use mathlib.Core.Bool.{Bool, true, false, _||_, cond}
 use mathlib.Core.List.{List, [], _∷_, _++_, map, flatMap, append-assoc}
 use mathlib.Core.Option.{Option, none, some}
@@ -12,7 +12,7 @@ use borrow.Author.Tests.{leb-true, leb-false, le-leb, lt-leb, ltb-true, ltb-fals
 use Rattle.spec.specs.Set.{bit, contains, rank, lookup, select, next}
 use Rattle.spec.specs.Layout.{size, Block, rowsIn, rowsOf, dataOf, allData}
 use Rattle.spec.specs.Reading.{rowsAt, part, dataSize, rowsBefore, bytesBefore}
-use Rattle.spec.proofs.Tests.{by-test, cond-yes, cond-no}
+use Rattle.spec.proofs.Tests.{by-test}
 use Rattle.spec.proofs.Rising.{Rising, rising-lower, rising-widen, rising-append}
 use Rattle.spec.proofs.Questions.{contains-append, contains-before, contains-past, rank-append, rank-low, rank-all, orElse, next-append, next-past, next-low}
 use Rattle.spec.proofs.Bytes.{part-at}
@@ -74,38 +74,57 @@ module _ (count low b : ℕ) (g : Block) (gs : List Block) (w : Well count low (
       let D = dataOf (g .places) in
       let k = w .0 in
       record {
-        before = rowsIn g ++ c .before; after = c .after;
+        before = rowsIn g ++ c .before;
+        after = c .after;
         rows = ap (λ t. rowsIn g ++ t) (c .rows) ∙ sym (append-assoc (rowsIn g) (c .before) (rowsFrom b ps ++ c .after));
         earlier = rising-append (low * size) (suc (g .number) * size) (b * size) (rowsIn g) (c .before) (omega arith) (omega arith)
-          (rising-lower (low * size) (g .number * size + 0) (suc (g .number) * size) (rowsIn g) (omega arith)
-          (rising-widen (g .number * size + 0) (g .number * size + size) (suc (g .number) * size) (rowsIn g) (omega arith) (rows-in-rise (g .number) 0 size (g .places) full)))
-          (c .earlier);
-        later = c .later; places = c .places;
-        data-before = D ++ c .data-before; data-after = c .data-after;
+            (rising-lower (low * size) (g .number * size + 0) (suc (g .number) * size) (rowsIn g) (omega arith)
+            (rising-widen (g .number * size + 0) (g .number * size + size) (suc (g .number) * size) (rowsIn g) (omega arith) (rows-in-rise (g .number) 0 size (g .places) full)))
+            (c .earlier);
+        later = c .later;
+        places = c .places;
+        data-before = D ++ c .data-before;
+        data-after = c .data-after;
         bytes = ap (λ t. D ++ t) (c .bytes) ∙ sym (append-assoc D (c .data-before) (dataOf ps ++ c .data-after));
         many = length-append D (c .data-before) ∙ omega (arith, length-data (g .places), c .many, bytes-later b g gs l);
-        next-bytes = omega (arith, c .next-bytes, bytes-later b g gs l, bytes-later (b + 1) g gs (omega arith)) }
+        next-bytes = omega (arith, c .next-bytes, bytes-later b g gs l, bytes-later (b + 1) g gs (omega arith));
+      }
 
   cut-here : g .number ≡ b → Cut count low b (g .places) (g ∷ gs)
   unfolding rowsOf allData flatMap
   cut-here e =
       let n : bytesBefore b (g ∷ gs) ≡ 0 = bytes-none count (g .number) b (g ∷ gs) (omega arith) (omega arith, w .1, w .2, w .3, w .4) in
       record {
-        before = []; after = rowsOf gs;
+        before = [];
+        after = rowsOf gs;
         rows = ap (λ n. rowsFrom n (g .places) ++ rowsOf gs) e;
-        earlier = tt; later = rising-lower ((b + 1) * size) (suc (g .number) * size) count (rowsOf gs) (omega arith) (well-rows count (suc (g .number)) gs (w .4)); places = full;
-        data-before = []; data-after = allData gs; bytes = refl; many = sym n;
-        next-bytes = omega (arith, n, bytes-later (b + 1) g gs (omega arith), bytes-none count (suc (g .number)) (b + 1) gs (omega arith) (w .4)) }
+        earlier = tt;
+        later = rising-lower ((b + 1) * size) (suc (g .number) * size) count (rowsOf gs) (omega arith) (well-rows count (suc (g .number)) gs (w .4));
+        places = full;
+        data-before = [];
+        data-after = allData gs;
+        bytes = refl;
+        many = sym n;
+        next-bytes = omega (arith, n, bytes-later (b + 1) g gs (omega arith), bytes-none count (suc (g .number)) (b + 1) gs (omega arith) (w .4));
+      }
 
 -- an empty block before them all
 cut-empty : (count low′ low b : ℕ) (gs : List Block) → b < low → Well count low gs → Cut count low′ b [] gs
 cut-empty count low′ low b gs l w =
     let n = bytes-none count low b gs (omega arith) w in
     record {
-      before = []; after = rowsOf gs; rows = refl; earlier = tt;
-      later = rising-lower ((b + 1) * size) (low * size) count (rowsOf gs) (omega arith) (well-rows count low gs w); places = tt;
-      data-before = []; data-after = allData gs; bytes = ap (λ d. d ++ allData gs) (sym data-none); many = sym n;
-      next-bytes = omega (arith, n, bytes-none count low (b + 1) gs (omega arith) w) }
+      before = [];
+      after = rowsOf gs;
+      rows = refl;
+      earlier = tt;
+      later = rising-lower ((b + 1) * size) (low * size) count (rowsOf gs) (omega arith) (well-rows count low gs w);
+      places = tt;
+      data-before = [];
+      data-after = allData gs;
+      bytes = ap (λ d. d ++ allData gs) (sym data-none);
+      many = sym n;
+      next-bytes = omega (arith, n, bytes-none count low (b + 1) gs (omega arith) w);
+    }
 
 pub cut : (count low b : ℕ) (gs : List Block) → Well count low gs → Cut count low b (placesOf b gs) gs
 unfolding placesOf
@@ -113,10 +132,10 @@ cut count low b [] w = cut-empty count low (suc b) b [] (omega arith) tt
 cut count low b (g ∷ gs) w =
     by-test (ltb (g .number) b)
     (λ e. let l = ltb-true (g .number) b e in
-      rw (ne-eqb (g .number) b (λ q. omega arith)) (cut-later count low b g gs w (placesOf b gs) l (cut count (suc (g .number)) b gs (w .4))))
+    rw (ne-eqb (g .number) b (λ q. omega arith)) (cut-later count low b g gs w (placesOf b gs) l (cut count (suc (g .number)) b gs (w .4))))
     (λ e. by-test (eqb (g .number) b) (λ f. rw f (cut-here count low b g gs w (eqb-true (g .number) b f)))
-      (λ f. let l : b < g .number = lib.Arith.lt-of-le-ne (ltb-false (g .number) b e) (λ q. eqb-false (g .number) b f (sym q)) in
-        rw (f, places-none count (suc (g .number)) b gs (omega arith) (w .4)) (cut-empty count low (g .number) b (g ∷ gs) l (omega arith, w .1, w .2, w .3, w .4))))
+    (λ f. let l : b < g .number = lib.Arith.lt-of-le-ne (ltb-false (g .number) b e) (λ q. eqb-false (g .number) b f (sym q)) in
+    rw (f, places-none count (suc (g .number)) b gs (omega arith) (w .4)) (cut-empty count low (g .number) b (g ∷ gs) l (omega arith, w .1, w .2, w .3, w .4))))
 
 -- ---- the questions of one block's rows
 
@@ -173,8 +192,13 @@ module _ (count : ℕ) (gs : List Block) (w : Well count 0 gs) where
   pub rows-before-next : (b : ℕ) → rowsBefore (b + 1) gs ≡ rowsBefore b gs + length (placesOf b gs)
   rows-before-next b =
       let R = rowsFrom b (placesOf b gs) in
-      omega (arith, rank-cut b ((b + 1) * size) (omega arith) (omega arith), rows-cut b, rank-all (b * size + 0) (b * size + size) R (block-rise b) ((b + 1) * size) (omega arith),
-      length-map (placesOf b gs) (λ p. b * size + p))
+      omega (
+        arith,
+        rank-cut b ((b + 1) * size) (omega arith) (omega arith),
+        rows-cut b,
+        rank-all (b * size + 0) (b * size + size) R (block-rise b) ((b + 1) * size) (omega arith),
+        length-map (placesOf b gs) (λ p. b * size + p),
+      )
 
   -- rank: the rows in blocks before, and those of the block at lower places
   pub rank-split : (d : ℕ) → rank d (rowsOf gs) ≡ rowsBefore (d / size) gs + rank (d % size) (placesOf (d / size) gs)
@@ -187,7 +211,7 @@ module _ (count : ℕ) (gs : List Block) (w : Well count 0 gs) where
       let R = rowsFrom b (placesOf b gs) in
       ap (contains d) (c .rows) ∙ contains-append d (c .before) (R ++ c .after) ∙ ap (λ t. contains d (c .before) || t) (contains-append d R (c .after))
       ∙ rw (contains-past 0 (b * size) (c .before) (c .earlier) d (omega arith), contains-before ((b + 1) * size) count (c .after) (c .later) d (omega arith), contains-in d (placesOf b gs))
-        (or-false (contains (d % size) (placesOf b gs)))
+      (or-false (contains (d % size) (placesOf b gs)))
     where
       or-false : (t : Bool) → t || false ≡ t
       or-false true = refl
@@ -212,12 +236,12 @@ module _ (count : ℕ) (gs : List Block) (w : Well count 0 gs) where
       let c = cut count 0 b gs w in
       let R = rowsFrom b (placesOf b gs) in
       let parts : (u : ℕ) → b * size ≤ u → next u (rowsOf gs) ≡ orElse (next u R) (next u (c .after)) =
-            λ u l. ap (next u) (c .rows) ∙ next-append u (c .before) (R ++ c .after)
-              ∙ ap₂ (λ a b. orElse a b) (next-past 0 (b * size) (c .before) (c .earlier) u l) (next-append u R (c .after)) in
+      λ u l. ap (next u) (c .rows) ∙ next-append u (c .before) (R ++ c .after)
+      ∙ ap₂ (λ a b. orElse a b) (next-past 0 (b * size) (c .before) (c .earlier) u l) (next-append u R (c .after)) in
       let later : next ((b + 1) * size) (rowsOf gs) ≡ next t (c .after) =
-            parts ((b + 1) * size) (omega arith)
-            ∙ ap₂ (λ a b. orElse a b) (next-past (b * size + 0) (b * size + size) R (block-rise b) ((b + 1) * size) (omega arith))
-              (next-low ((b + 1) * size) count (c .after) (c .later) ((b + 1) * size) t (omega arith) (omega arith)) in
+      parts ((b + 1) * size) (omega arith)
+      ∙ ap₂ (λ a b. orElse a b) (next-past (b * size + 0) (b * size + size) R (block-rise b) ((b + 1) * size) (omega arith))
+      (next-low ((b + 1) * size) count (c .after) (c .later) ((b + 1) * size) t (omega arith) (omega arith)) in
       parts t (omega arith) ∙ ap₂ (λ a b. orElse a b) (next-in t (placesOf b gs)) (sym later)
 
   -- ---- where a block's bytes lie
@@ -238,7 +262,7 @@ module _ (count : ℕ) (gs : List Block) (w : Well count 0 gs) where
       let e : pre ++ (allData gs ++ rest) ≡ (pre ++ c .data-before) ++ (D ++ (c .data-after ++ rest)) = ap (λ d. pre ++ (d ++ rest)) (c .bytes) ∙ simp append-assoc in
       ap (part (at + bytesBefore b gs) (at + bytesBefore (b + 1) gs)) e
       ∙ part-at (pre ++ c .data-before) D (c .data-after ++ rest) (at + bytesBefore b gs) (at + bytesBefore (b + 1) gs)
-        (length-append pre (c .data-before) ∙ omega (arith, c .many)) (omega (arith, c .next-bytes, length-data (placesOf b gs)))
+      (length-append pre (c .data-before) ∙ omega (arith, c .many)) (omega (arith, c .next-bytes, length-data (placesOf b gs)))
 
   pub places-rise : (b : ℕ) → Rising 0 size (placesOf b gs)
   places-rise b = cut count 0 b gs w .places

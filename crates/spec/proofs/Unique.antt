@@ -1,102 +1,40 @@
--- Two answers that both meet a call's statement are equal, and so is all lent memory afterwards.
-use Prim.Native.Nat.{ℕ, _-_}
+-- Each call's statement has one outcome: two answers that meet it are equal, all lent memory included, and one meets it.
+use Prim.Native.Nat.{ℕ, _-_, _≤_, _<_, min}
 use mathlib.Core.Path.{_≡_, refl, sym, ap, _∙_}
-use mathlib.Core.Bool.{not, _||_}
-use lib.Dec.{ltb, leb}
-use mathlib.Core.List.{List, [], _∷_}
+use mathlib.Core.Bool.{false, not, _||_}
+use mathlib.Core.List.{List}
 use mathlib.Core.Option.{Option, none, some}
-use lib.ListN.{length, getD}
+use native.Mathlib.Omega.{arith}
+use lib.ListN.{length, drop, getD, length-map}
+use lib.Seq.{drop-at, drop-append-seam}
+use lib.Dec.{ltb, leb}
+use borrow.Author.Tests.{lt-leb, le-ltb}
 use Rattle.spec.specs.declared.Record.{Record}
-use Rattle.spec.specs.declared.Refusal.{Refusal}
-use Rattle.spec.specs.declared.Refusal.the-variants.{Rows, Order, Range, Room, Header, Entries, Length, Content, Rank, Broken}
 use Rattle.spec.specs.declared.Answer.{Answer}
-use Rattle.spec.specs.declared.Answer.the-variants as Answer
 use Rattle.spec.specs.declared.Number.{Number}
-use Rattle.spec.specs.declared.Number.the-variants as Number
 use Rattle.spec.specs.declared.Found.{Found}
-use Rattle.spec.specs.declared.Found.the-variants as Found
 use Rattle.spec.specs.declared.Count.{Count}
-use Rattle.spec.specs.declared.Count.the-variants as Count
 use Rattle.spec.specs.declared.Done.{Done}
-use Rattle.spec.specs.declared.Done.the-variants as Done
 use Rattle.spec.specs.declared.Opened.{Opened}
-use Rattle.spec.specs.declared.Opened.the-variants as Opened
+use Rattle.spec.specs.Set.{rank, lookup, next, hits, ranks, selects, below, page}
 use Rattle.spec.specs.Layout.{Block, rowsOf}
 use Rattle.spec.specs.Reading.{Head, Given}
-use Rattle.spec.specs.Answers.{Said, value, nothing, refused, number, answered, numbered, found, counted, done, opened, broken, due, whenever, Owed, Asked, Free}
+use Rattle.spec.specs.Answers.{Said, value, refused, answered, numbered, found, counted, done, opened, whenever, orNothing, front, broken, due, Owed, Asked, Free}
 use Rattle.spec.specs.Answers.{sayContains, sayRank, sayLookup, sayNext, saySelect}
-use Rattle.spec.specs.Set.{below}
-use Rattle.spec.specs.Answers.{WriteOwes, OpenOwes, OnceOwes, CallOwes, ContainsOwes, RankOwes, LookupOwes, NextOwes, SelectOwes, LookupBatchOwes, SelectBatchOwes, PageOwes}
+use Rattle.spec.specs.Answers.{WriteOwes, OpenOwes, OnceOwes, CallOwes}
+use Rattle.spec.specs.Answers.{ContainsOwes, RankOwes, LookupOwes, NextOwes, SelectOwes, LookupBatchOwes, SelectBatchOwes, PageOwes}
+use Rattle.spec.specs.Answers.{SomeHits, allHits, SomeRows, SomePage}
 use Rattle.spec.proofs.Tests.{not-none}
-use Rattle.spec.proofs.Promises.{refusals}
-
--- ---- answers that say the same are the same
-
-abbrev pub Injective : {A S : Type 0} → (A → S) → Type 0
-Injective {A} says = (a b : A) → says a ≡ says b → a ≡ b
-
--- a map that can be taken back
-by-back : {A S : Type 0} (says : A → S) (back : S → A) → ((a : A) → back (says a) ≡ a) → Injective says
-by-back says back h a b e = sym (h a) ∙ ap back e ∙ h b
-
-abbrev refusalOf : ℕ → Refusal
-refusalOf k = getD refusals (k - 1) Rows
-
-number-back : (e : Refusal) → refusalOf (number e) ≡ e
-number-back Rows = refl
-number-back Order = refl
-number-back Range = refl
-number-back Room = refl
-number-back Header = refl
-number-back Entries = refl
-number-back Length = refl
-number-back Content = refl
-number-back Rank = refl
-number-back Broken = refl
-
--- an answer by its three kinds
-abbrev back : {X A : Type 0} → (X → A) → A → (Refusal → A) → Said X → A
-back is none′ not′ (value v) = is v
-back is none′ not′ nothing = none′
-back is none′ not′ (refused k) = not′ (refusalOf k)
-
-pub number-one : Injective number
-number-one = by-back number refusalOf number-back
-
-pub answered-one : Injective answered
-answered-one =
-    by-back answered (back (λ v. getD (Answer.No ∷ []) v Answer.Yes) Answer.No Answer.Refused)
-    (λ a. elim a [ Answer.Yes ↦ refl | Answer.No ↦ refl | Answer.Refused e ↦ ap Answer.Refused (number-back e) ])
-
-pub numbered-one : Injective numbered
-numbered-one =
-    by-back numbered (back Number.Is (Number.Refused Rows) Number.Refused)
-    (λ a. elim a [ Number.Is v ↦ refl | Number.Refused e ↦ ap Number.Refused (number-back e) ])
-
-pub found-one : Injective found
-found-one =
-    by-back found (back Found.At Found.Nothing Found.Refused)
-    (λ a. elim a [ Found.At v ↦ refl | Found.Nothing ↦ refl | Found.Refused e ↦ ap Found.Refused (number-back e) ])
-
-pub counted-one : Injective counted
-counted-one =
-    by-back counted (back Count.Is (Count.Refused Rows) Count.Refused)
-    (λ a. elim a [ Count.Is v ↦ refl | Count.Refused e ↦ ap Count.Refused (number-back e) ])
-
-pub done-one : Injective done
-done-one =
-    by-back done (back (λ u. Done.Yes) Done.Yes Done.Refused) (λ a. elim a [ Done.Yes ↦ refl | Done.Refused e ↦ ap Done.Refused (number-back e) ])
-
-pub opened-one : Injective opened
-opened-one =
-    by-back opened (back Opened.Index (Opened.Refused Rows) Opened.Refused)
-    (λ a. elim a [ Opened.Index rec ↦ refl | Opened.Refused e ↦ ap Opened.Refused (number-back e) ])
-
--- an answer, and a buffer
-with-one : {A S B : Type 0} (says : A → S) → Injective says → (a b : A) (x y : B) → _≡_ {A = S × B} (says a, x) (says b, y) → (a ≡ b) × (x ≡ y)
-with-one says one a b x y e = (one a b (ap (λ p. p .0) e), ap (λ p. p .1) e)
+use Rattle.spec.proofs.Questions.{all-below}
+use Rattle.spec.proofs.Batches.{hits-le, length-selects, length-page}
+use Rattle.spec.proofs.Asking.{asked-none}
+use Rattle.spec.proofs.Numbers.{Injective, answered-one, numbered-one, found-one, counted-one, done-one, opened-one}
 
 -- ---- write, open, the one-shot forms, the C calls
+
+with-one : {A S B : Type 0} (says : A → S) → Injective says → (a b : A) (x y : B) → _≡_ {A = S × B} (says a, x) (says b, y)
+    → (a ≡ b) × (x ≡ y)
+with-one says one a b x y e = (one a b (ap (λ p. p .0) e), ap (λ p. p .1) e)
 
 pub one-write : (count : ℕ) (rows out : List ℕ) (a b : Count) (x y : List ℕ) → WriteOwes count rows out (counted a, x)
     → WriteOwes count rows out (counted b, y) → (a ≡ b) × (x ≡ y)
@@ -121,8 +59,8 @@ pub data Settled (d : Option ℕ) (given : Head → List Block → Type 0) : Typ
   refusal : (k : ℕ) → d ≡ some k → Settled d given
   together : (h : Head) (gs : List Block) → given h gs → Settled d given
 
-pub one-outcome : {O : Type 0} (d : Option ℕ) (given : Head → List Block → Type 0) (refuse : ℕ → O) (loose : O → Type 0) (exact : List ℕ → O) (o p : O)
-    → Settled d given → Owed d given refuse loose exact o → Owed d given refuse loose exact p → o ≡ p
+pub one-outcome : {O : Type 0} (d : Option ℕ) (given : Head → List Block → Type 0) (refuse : ℕ → O) (loose : O → Type 0)
+    (exact : List ℕ → O) (o p : O) → Settled d given → Owed d given refuse loose exact o → Owed d given refuse loose exact p → o ≡ p
 one-outcome (some k) given refuse loose exact o p s a b = a ∙ sym b
 one-outcome none given refuse loose exact o p (refusal k e) a b = not-none (sym e)
 one-outcome none given refuse loose exact o p (together h gs g) a b = a .1 h gs g ∙ sym (b .1 h gs g)
@@ -131,8 +69,9 @@ abbrev pub Outside : List ℕ → List ℕ → Record → Option ℕ → Type 0
 Outside file directory rec late = Settled (due (broken file directory rec) late) (Given file directory rec)
 
 module _ (file directory : List ℕ) (rec : Record) where
-  one-answer : {A : Type 0} (says : A → Said ℕ) → Injective says → (late : Option ℕ) (exact : List ℕ → Said ℕ) → Outside file directory rec late
-      → (a b : A) → Asked file directory rec late refused Free exact (says a) → Asked file directory rec late refused Free exact (says b) → a ≡ b
+  one-answer : {A : Type 0} (says : A → Said ℕ) → Injective says → (late : Option ℕ) (exact : List ℕ → Said ℕ)
+      → Outside file directory rec late → (a b : A) → Asked file directory rec late refused Free exact (says a)
+      → Asked file directory rec late refused Free exact (says b) → a ≡ b
   one-answer says one late exact s a b p q = one a b (one-outcome _ _ refused Free exact (says a) (says b) s p q)
 
   pub one-contains : (d : ℕ) → Outside file directory rec none → (a b : Answer) → ContainsOwes file directory rec d (answered a)
@@ -170,3 +109,67 @@ module _ (file directory : List ℕ) (rec : Record) where
   pub one-page : (r : ℕ) (out : List ℕ) → Outside file directory rec (whenever (ltb (rec .populated) r) 9) → (a b : Count) (x y : List ℕ)
       → PageOwes file directory rec r out (counted a, x) → PageOwes file directory rec r out (counted b, y) → (a ≡ b) × (x ≡ y)
   one-page r out s a b x y p q = with-one counted counted-one a b x y (one-outcome _ _ _ _ _ _ _ s p q)
+
+-- ---- and there is one: where opening gave all three together and 10 is not due, what the set says meets the statement
+
+free-or : (n : Option ℕ) → Free (orNothing n)
+free-or none = tt
+free-or (some v) = tt
+
+module _ (file directory : List ℕ) (rec : Record) (h : Head) (gs : List Block) (g : Given file directory rec h gs)
+    (ok : broken file directory rec ≡ false) where
+  met : {O : Type 0} (late : Option ℕ) (refuse : ℕ → O) (loose : O → Type 0) (exact : List ℕ → O) → late ≡ none → loose (exact (rowsOf gs))
+      → Asked file directory rec late refuse loose exact (exact (rowsOf gs))
+  met late refuse loose exact e l =
+      asked-none file directory rec late refuse loose exact (exact (rowsOf gs)) ok e l
+      (λ h′ gs′ g′. let same : gs ≡ gs′ = cc (g .accepted, g′ .accepted) in ap (λ l. exact (rowsOf l)) same)
+
+  pub contains-met : (d : ℕ) → ContainsOwes file directory rec d (sayContains d (rowsOf gs))
+  contains-met d = met none refused Free (sayContains d) refl tt
+
+  pub rank-met : (d : ℕ) → RankOwes file directory rec d (sayRank d (rowsOf gs))
+  rank-met d = met none refused Free (sayRank d) refl tt
+
+  pub lookup-met : (d : ℕ) → LookupOwes file directory rec d (sayLookup d (rowsOf gs))
+  lookup-met d = met none refused Free (sayLookup d) refl (free-or (lookup d (rowsOf gs)))
+
+  pub next-met : (t : ℕ) → NextOwes file directory rec t (sayNext t (rowsOf gs))
+  next-met t = met none refused Free (sayNext t) refl (free-or (next t (rowsOf gs)))
+
+  n-is : rec .populated ≡ length (rowsOf gs)
+  n-is = ap (λ x. x .populated) (g .record′)
+
+  pub select-met : (k : ℕ) → k < length (rowsOf gs) → SelectOwes file directory rec k (saySelect k (rowsOf gs))
+  select-met k l =
+      met (whenever (leb (rec .populated) k) 9) refused Free (saySelect k) (rw (lt-leb (rec .populated) k (omega (arith, n-is))))
+      (rw (lt-leb (length (rowsOf gs)) k l) tt)
+
+  pub lookups-met : (questions rows ranks₀ : List ℕ) → length questions ≤ length rows → length questions ≤ length ranks₀
+      → LookupBatchOwes file directory rec questions rows ranks₀ (allHits questions rows ranks₀ (rowsOf gs))
+  lookups-met questions rows ranks₀ l m =
+      let hs = hits (rowsOf gs) questions in
+      let n = length-map hs (λ q. rank q (rowsOf gs)) in
+      met (whenever (ltb (length rows) (length questions) || ltb (length ranks₀) (length questions)) 4) (λ k. (refused k, rows, ranks₀))
+      (SomeHits questions rows ranks₀) (allHits questions rows ranks₀)
+      (rw (le-ltb (length rows) (length questions) l, le-ltb (length ranks₀) (length questions) m)) (
+        length hs,
+        refl,
+        hits-le (rowsOf gs) questions,
+        drop-append-seam hs (drop (length hs) rows),
+        rw n (drop-at (ranks (rowsOf gs) hs) (drop (length hs) ranks₀) (length hs) n),
+      )
+
+  pub selects-met : (ks : List ℕ) → ((i : ℕ) → i < length ks → getD ks i 0 < rec .populated)
+      → SelectBatchOwes file directory rec ks (value tt, selects (rowsOf gs) ks)
+  selects-met ks l =
+      met (whenever (not (below (rec .populated) ks)) 9) (λ k. (refused k, ks)) (SomeRows ks) (λ xs. (value tt, selects xs ks))
+      (rw (all-below (rec .populated) ks l)) (refl, length-selects (rowsOf gs) ks)
+
+  pub page-met : (r : ℕ) (out : List ℕ) → r ≤ rec .populated
+      → PageOwes file directory rec r out (value (length (page r (length out) (rowsOf gs))), front (page r (length out) (rowsOf gs)) out)
+  page-met r out l =
+      let ps = page r (length out) (rowsOf gs) in
+      let e : length ps ≡ min (length out) (rec .populated - r) = rw n-is (length-page r (length out) (rowsOf gs)) in
+      met (whenever (ltb (rec .populated) r) 9) (λ k. (refused k, out)) (SomePage (min (length out) (rec .populated - r)) out)
+      (λ xs. (value (length (page r (length out) xs)), front (page r (length out) xs) out))
+      (rw (le-ltb (rec .populated) r l)) (ap value e, rw (← e) (drop-append-seam ps (drop (length ps) out)))

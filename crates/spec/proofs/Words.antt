@@ -1,7 +1,7 @@
 -- A dense word and its places: each is read back from the other.
 use Prim.Native.Nat.{ℕ, zero, suc, _+_, _*_, _/_, _%_, _^_, _≤_, _<_}
-use mathlib.Core.Path.{_≡_, refl, sym, ap, ap₂, _∙_, subst}
-use mathlib.Core.Bool.{Bool, true, false, _||_}
+use mathlib.Core.Path.{_≡_, refl, sym, ap, ap₂, subst}
+use mathlib.Core.Bool.{Bool, true, false}
 use mathlib.Core.List.{List, [], _∷_, _++_}
 use native.Mathlib.Nat.{pow-suc, zero-add, add-zero, suc-add}
 use native.Mathlib.Omega.{arith}
@@ -40,6 +40,7 @@ bits-word (suc f) a ps =
     odd : (b : Bool) (w : ℕ) → eqb ((bit b + 2 * w) % 2) 1 ≡ b
     odd true w = eq-eqb ((1 + 2 * w) % 2) 1 (omega arith)
     odd false w = ne-eqb ((0 + 2 * w) % 2) 1 (λ q. omega arith)
+
     half : (b : Bool) (w : ℕ) → (bit b + 2 * w) / 2 ≡ w
     half true w = omega arith
     half false w = omega arith
@@ -63,9 +64,9 @@ members-all (suc f) a end [] r h = members-nil f (suc a)
 members-all (suc f) a end (p ∷ ps) r h =
     by-test (eqb p a)
     (λ e. let q : p ≡ a = eqb-true p a e in
-      rw (e, members-skip f (suc a) p ps (omega arith)) (ap₂ (λ x l. x ∷ l) (sym q) (members-all f (suc a) end ps (subst (λ x. Rising (suc x) end ps) q (r .2)) (omega arith))))
+    rw (e, members-skip f (suc a) p ps (omega arith)) (ap₂ (λ x l. x ∷ l) (sym q) (members-all f (suc a) end ps (subst (λ x. Rising (suc x) end ps) q (r .2)) (omega arith))))
     (λ e. let l : a < p = lib.Arith.lt-of-le-ne (r .0) (λ q. eqb-false p a e (sym q)) in
-      rw (e, contains-before (suc p) end ps (r .2) a (omega arith)) (members-all f (suc a) end (p ∷ ps) (l, r .1, r .2) (omega arith)))
+    rw (e, contains-before (suc p) end ps (r .2) a (omega arith)) (members-all f (suc a) end (p ∷ ps) (l, r .1, r .2) (omega arith)))
 
 -- f of them, and the g behind
 pub members-append : (f g a : ℕ) (ps : List ℕ) → members (f + g) a ps ≡ members f a ps ++ members g (a + f) ps
@@ -105,11 +106,18 @@ word-bits (suc f) a end w pre rest h r s =
     let s′ : Rising (suc a + f) end rest = rw n s in
     by-test (eqb (w % 2) 1)
     (λ e.
-      let i : wordFrom f (suc a) (pre ++ (a ∷ (B ++ rest))) ≡ w / 2 =
-            rw (sym (append-snoc pre a (B ++ rest))) (word-bits f (suc a) end (w / 2) (pre ++ (a ∷ [])) rest h′ (rising-append 0 a (suc a) pre (a ∷ []) (omega arith) (omega arith) r (omega arith, omega arith, tt)) s′) in
-      rw (e, contains-here a pre (B ++ rest), i) (omega (arith, eqb-true (w % 2) 1 e)))
+    let i : wordFrom f (suc a) (pre ++ (a ∷ (B ++ rest))) ≡ w / 2 =
+    rw (sym (append-snoc pre a (B ++ rest))) (word-bits f (suc a) end (w / 2) (pre ++ (a ∷ [])) rest h′ (rising-append 0 a (suc a) pre (a ∷ []) (omega arith) (omega arith) r (omega arith, omega arith, tt)) s′) in
+    rw (e, contains-here a pre (B ++ rest), i) (omega (arith, eqb-true (w % 2) 1 e)))
     (λ e.
-      let i : wordFrom f (suc a) (pre ++ (B ++ rest)) ≡ w / 2 = word-bits f (suc a) end (w / 2) pre rest h′ (rising-widen 0 a (suc a) pre (omega arith) r) s′ in
-      let l = lib.Arith.lt-of-le-ne {i = w % 2} {k = 1} (omega arith) (eqb-false (w % 2) 1 e) in
-      rw (e, contains-append a pre (B ++ rest), contains-append a B rest, contains-past 0 a pre r a (omega arith),
-        contains-before (suc a) (suc a + f) B (bits-rising f (suc a) (w / 2)) a (omega arith), contains-before (a + suc f) end rest s a (omega arith), i) (omega arith))
+    let i : wordFrom f (suc a) (pre ++ (B ++ rest)) ≡ w / 2 = word-bits f (suc a) end (w / 2) pre rest h′ (rising-widen 0 a (suc a) pre (omega arith) r) s′ in
+    let l = lib.Arith.lt-of-le-ne {i = w % 2} {k = 1} (omega arith) (eqb-false (w % 2) 1 e) in
+    rw (
+      e,
+      contains-append a pre (B ++ rest),
+      contains-append a B rest,
+      contains-past 0 a pre r a (omega arith),
+      contains-before (suc a) (suc a + f) B (bits-rising f (suc a) (w / 2)) a (omega arith),
+      contains-before (a + suc f) end rest s a (omega arith),
+      i,
+    ) (omega arith))

@@ -2,7 +2,7 @@
 use Prim.Native.Nat.{ℕ, zero, suc, _+_, _-_, _*_, _≤_, _<_}
 use mathlib.Core.Path.{_≡_, refl, sym, ap, ap₂, _∙_, subst₂}
 use mathlib.Core.Bool.{Bool, true, false, _&&_, cond, not, true≢false}
-use mathlib.Core.List.{List, [], _∷_, _++_, map, flatMap, append-assoc}
+use mathlib.Core.List.{List, [], _∷_, _++_, map, flatMap}
 use mathlib.Core.Option.{Option, none, some}
 use native.Mathlib.Nat.{zero-add}
 use native.Mathlib.Omega.{arith}
@@ -11,8 +11,8 @@ use lib.Seq.{take-at, take-take}
 use lib.Dec.{leb, ltb, eqb}
 use borrow.Author.Tests.{ltb-true, ltb-false, leb-true, eqb-true, eq-eqb, not-false}
 use Rattle.spec.specs.declared.Entry.{Entry}
-use Rattle.spec.specs.Layout.{bytesOf, groups, Block, dataOf, allData, entryOf, allEntries, written}
-use Rattle.spec.specs.Reading.{limit, blockCount, rowsAt, AreBytes, numberIn, part, Head, ungroups, padded, entryIn, entriesAt, entriesOk, dataSize, dataSizes, placesIn, contentOk, contentsOk, blocksAt, Verdict, fault, holds, entryCount, entryStart, entriesOf, judge, verdict}
+use Rattle.spec.specs.Layout.{bytesOf, groups, Block, allData, entryOf, allEntries, written}
+use Rattle.spec.specs.Reading.{limit, blockCount, rowsAt, AreBytes, numberIn, part, Head, ungroups, padded, entryIn, entriesAt, entriesOk, dataSize, dataSizes, contentOk, contentsOk, blocksAt, Verdict, fault, holds, entryCount, entryStart, entriesOf, judge, verdict}
 use Rattle.spec.proofs.Tests.{by-test, and-true, true-and}
 use Rattle.spec.proofs.Bytes.{length-part, part-join, part-none, part-all, bytes-part, part-number, getD-part}
 use Rattle.spec.proofs.RowCount.{headOf, Headed, headed}
@@ -80,12 +80,13 @@ blocks-written count low at to (x ∷ es) file s y o e l k =
     let o3 = and-true (leb low (x .number)) (ltb (x .number) (blockCount count)) (o2 .0) in
     let k1 = and-true (contentOk (x .rows) end (part at (at + n) file)) (contentsOk count es (at + n) file) k in
     let b : Block-written (x .rows) end (part at (at + n) file) =
-          block-written (x .rows) end (part at (at + n) file) (bytes-part at (at + n) file y) (length-part at (at + n) file (omega arith) (omega arith) ∙ omega arith) (k1 .0) in
+    block-written (x .rows) end (part at (at + n) file) (bytes-part at (at + n) file y) (length-part at (at + n) file (omega arith) (omega arith) ∙ omega arith) (k1 .0) in
     let r : Blocks-written count (suc (x .number)) (at + n) to es file = blocks-written count (suc (x .number)) (at + n) to es file (s .1) y (o1 .1) (omega arith) l (k1 .1) in
     record {
       entries′ = ap₂ (λ m t. record { number = x .number; rows = m } ∷ t) (b .many) (r .entries′);
       bytes = ap₂ (λ a t. a ++ t) (b .bytes) (r .bytes) ∙ part-join at (at + n) to file (omega arith) (omega arith);
-      well = (leb-true low (x .number) (o3 .0), ltb-true (x .number) (blockCount count) (o3 .1), rw (b .many) (s .0), b .places, r .well) }
+      well = (leb-true low (x .number) (o3 .0), ltb-true (x .number) (blockCount count) (o3 .1), rw (b .many) (s .0), b .places, r .well);
+    }
 
 -- ---- the file
 
@@ -137,21 +138,22 @@ judged-written file h y p u lim fits ok sizes contents =
     let gs = blocksAt es (h .start) file in
     let start = read-start file h y p u in
     let b : Blocks-written (h .count) 0 (h .start) at es file =
-          blocks-written (h .count) 0 (h .start) at es file (entries-some (entryCount file) at file) y ok (omega arith) (omega arith) contents in
+    blocks-written (h .count) 0 (h .start) at es file (entries-some (entryCount file) at file) y ok (omega arith) (omega arith) contents in
     let e : entryCount file ≡ length gs = sym (length-entries-at (entryCount file) at file) ∙ ap length (sym (b .entries′)) ∙ length-map gs entryFor in
     let es′ : part at (n - 2) file ≡ allEntries gs =
-          sym (entries-written (entryCount file) at (n - 2) file y (omega arith) (omega arith)) ∙ ap (flatMap entryBytes) (sym (b .entries′)) ∙ entry-bytes gs in
+    sym (entries-written (entryCount file) at (n - 2) file y (omega arith) (omega arith)) ∙ ap (flatMap entryBytes) (sym (b .entries′)) ∙ entry-bytes gs in
     let last : part (n - 2) n file ≡ bytesOf 2 (length gs) = sym (part-number 2 (n - 2) n file y (omega arith) (omega arith)) ∙ ap (bytesOf 2) e in
     record {
       limited = lim;
       head = λ i. record { count = h .count; start = start i };
       well = b .well;
       bytes =
-        sym (part-all file)
-        ∙ sym (part-join 0 (h .start) n file (omega arith) (omega arith)
+          sym (part-all file)
+          ∙ sym (part-join 0 (h .start) n file (omega arith) (omega arith)
           ) ∙ ap₂ (λ a b. a ++ b) (read-front file h y p u)
-        (sym (part-join (h .start) at n file (omega arith) (omega arith))
-        ∙ ap₂ (λ a b. a ++ b) (sym (b .bytes)) (sym (part-join at (n - 2) n file (omega arith) (omega arith)) ∙ ap₂ (λ a b. a ++ b) es′ last)) }
+          (sym (part-join (h .start) at n file (omega arith) (omega arith))
+          ∙ ap₂ (λ a b. a ++ b) (sym (b .bytes)) (sym (part-join at (n - 2) n file (omega arith) (omega arith)) ∙ ap₂ (λ a b. a ++ b) es′ last));
+    }
 
 pub was-written : (file : List ℕ) (h : Head) (gs : List Block) → AreBytes file → verdict file ≡ holds h gs → Was-written file h gs
 unfolding verdict judge

@@ -1,14 +1,14 @@
 -- Wrong programs, each refuted by what its call owes. Most are tried on P2: rows 1, 5 of 10.
-use Prim.Native.Nat.{ℕ, zero, suc, _+_}
-use mathlib.Core.Path.{_≡_, refl, sym, ap, _∙_}
-use mathlib.Core.Bool.{true, false}
+use Prim.Native.Nat.{ℕ, suc, _+_}
+use mathlib.Core.Path.{_≡_, refl, ap, _∙_}
+use mathlib.Core.Bool.{false}
 use mathlib.Core.List.{List, [], _∷_, _++_, flatMap}
-use mathlib.Core.Option.{Option, none, some}
+use mathlib.Core.Option.{Option, none}
 use native.Mathlib.Omega.{arith}
 use lib.ListN.{length, getD, replicate}
 use Rattle.spec.specs.declared.Record.{Record}
 use Rattle.spec.specs.Set.{rising, contains, rank, next, hits, below}
-use Rattle.spec.specs.Layout.{Block, bytesOf, groups, blocks, rowsOf, wordFrom, miniBlock, miniBlocks, dataOf, allData, entryOf, allEntries, written, fileOf}
+use Rattle.spec.specs.Layout.{Block, bytesOf, groups, blocks, rowsOf, allData, allEntries, written, fileOf}
 use Rattle.spec.specs.Reading.{numberIn, part, Head, ungroups, entryIn, entriesAt, entriesOk, dataSizes, sparsePlaces, placesIn, contentOk, contentsOk, blocksAt, holds, judge, verdict, bytesBefore, pairs, directoryOf, Given}
 use Rattle.spec.specs.Answers.{Said, value, nothing, refused, code, rowFault, sayWrite, WriteOwes, sayOpen, OpenOwes, once, OnceOwes, CallOwes, orNothing, sayContains, sayRank, sayLookup, saySelect, sayNext, broken, Asked}
 use Rattle.spec.specs.Answers.{ContainsOwes, RankOwes, LookupOwes, NextOwes, SelectOwes, LookupBatchOwes, SelectBatchOwes, PageOwes}
