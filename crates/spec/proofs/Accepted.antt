@@ -1,22 +1,22 @@
 -- A written file is accepted, with the row count and the blocks that it was written from.
 use Prim.Native.Nat.{ℕ, suc, _+_, _-_, _*_, _≤_, _<_}
 use mathlib.Core.Path.{_≡_, refl, sym, ap, ap₂, _∙_}
-use mathlib.Core.Bool.{true, _&&_, not}
+use mathlib.Core.Bool.{true, _&&_}
 use mathlib.Core.List.{List, [], _∷_, _++_, map, flatMap, append-assoc, append-nil}
 use mathlib.Core.Option.{some}
 use native.Mathlib.Nat.{zero-add}
 use native.Mathlib.Omega.{arith}
 use lib.ListN.{length, length-append}
-use borrow.Author.Tests.{le-ltb, lt-ltb, le-leb, eq-eqb}
+use borrow.Author.Tests.{lt-ltb, le-leb}
 use Rattle.spec.specs.declared.Entry.{Entry}
 use Rattle.spec.specs.Layout.{bytesOf, groups, size, Block, dataOf, allData, entryOf, allEntries, written}
-use Rattle.spec.specs.Reading.{limit, blockCount, rowsAt, numberIn, part, ungroups, entryIn, entriesAt, entriesOk, dataSize, dataSizes, placesIn, contentOk, contentsOk, blocksAt, holds, entryCount, entryStart, entriesOf, judge, verdict}
-use Rattle.spec.proofs.Tests.{cond-no}
+use Rattle.spec.specs.Reading.{limit, blockCount, rowsAt, numberIn, part, ungroups, entryIn, entriesAt, entriesOk, dataSize, dataSizes, placesIn, contentOk, contentsOk, blocksAt, holds, entryCount, entryStart, entriesOf, verdict}
 use Rattle.spec.proofs.Bytes.{length-bytes, number-bytes, part-at, regroup, next-part, longer}
 use Rattle.spec.proofs.Rising.{rising-length}
 use Rattle.spec.proofs.RowCount.{headOf, read-back, shortest-unpadded}
 use Rattle.spec.proofs.Content.{length-data, places-back, content-back}
 use Rattle.spec.proofs.Blocks.{Well, well-length}
+use Rattle.spec.proofs.Verdict.{passed-holds}
 
 -- the entry that a block has
 abbrev pub entryFor : Block → Entry
@@ -150,21 +150,23 @@ module _ (count : ℕ) (gs : List Block) where
       ∙ entries-back count 0 (entryStart (written count gs)) gs (groups 4 count ++ allData gs) (bytesOf 2 (length gs)) h w (sym (start-read f))
 
 pub accepted : (count : ℕ) (gs : List Block) → count ≤ limit → Well count 0 gs → verdict (written count gs) ≡ holds (headOf count) gs
-unfolding verdict judge written
+unfolding written
 accepted count gs h w =
+    let H = groups 4 count in
+    let rest : List ℕ = allEntries gs ++ bytesOf 2 (length gs) in
     let f : length gs < size = omega (arith, well-length count 0 gs w) in
     let n = count-read count gs f in
     let e = entries-read count gs h w f in
     let l = length-written count gs in
-    let s : entryStart (written count gs) - length (groups 4 count) ≡ dataSizes (map entryFor gs) =
-    omega (arith, start-read count gs f, length-append (groups 4 count) (allData gs), length-all-data gs) in
-    ap (judge (written count gs)) (head-read count gs h)
-    ∙ cond-no _ _ _ (shortest-unpadded count (allData gs ++ (allEntries gs ++ bytesOf 2 (length gs))) (omega arith))
-    ∙ cond-no _ _ _ (le-ltb limit count h)
-    ∙ cond-no _ _ _ (le-ltb (length (written count gs)) (length (groups 4 count) + 4 * entryCount (written count gs) + 2) (omega arith))
-    ∙ cond-no _ _ _ (ap not (ap (entriesOk count 0) e ∙ entries-ok count 0 gs w))
-    ∙ cond-no _ _ _ (ap not (eq-eqb _ _ (s ∙ ap dataSizes (sym e))))
-    ∙ cond-no _ _ _ (ap not (ap (λ es. contentsOk count es (length (groups 4 count)) (written count gs)) e
-    ∙ contents-ok count 0 (length (groups 4 count)) gs (groups 4 count) (allEntries gs ++ bytesOf 2 (length gs)) w refl))
-    ∙ ap (holds (headOf count)) (ap (λ es. blocksAt es (length (groups 4 count)) (written count gs)) e
-    ∙ blocks-back count 0 (length (groups 4 count)) gs (groups 4 count) (allEntries gs ++ bytesOf 2 (length gs)) w refl)
+    let s : entryStart (written count gs) - length H ≡ dataSizes (map entryFor gs) =
+    omega (arith, start-read count gs f, length-append H (allData gs), length-all-data gs) in
+    passed-holds (written count gs) (headOf count) (head-read count gs h)
+    (record {
+      unpadded = shortest-unpadded count (allData gs ++ rest) (omega arith);
+      limited = h;
+      fits = omega arith;
+      entries = ap (entriesOk count 0) e ∙ entries-ok count 0 gs w;
+      sizes = s ∙ ap dataSizes (sym e);
+      contents = ap (λ es. contentsOk count es (length H) (written count gs)) e ∙ contents-ok count 0 (length H) gs H rest w refl;
+    })
+    ∙ ap (holds (headOf count)) (ap (λ es. blocksAt es (length H) (written count gs)) e ∙ blocks-back count 0 (length H) gs H rest w refl)

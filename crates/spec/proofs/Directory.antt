@@ -11,10 +11,10 @@ use borrow.Author.Tests.{lt-ltb}
 use Rattle.spec.specs.declared.Record.{Record}
 use Rattle.spec.specs.Layout.{bytesOf, groups, size, Block, rowsOf, dataOf, allData, allEntries, written}
 use Rattle.spec.specs.Reading.{blockCount, AreBytes, part, Head, rowsBefore, bytesBefore, pairs, directoryOf, directoryLength, Given}
-use Rattle.spec.specs.Answers.{broken}
+use Rattle.spec.specs.Answers.{value, OpenOwes, broken}
 use Rattle.spec.proofs.Rising.{Rising, rising-length}
 use Rattle.spec.proofs.Questions.{rank-low, rank-all}
-use Rattle.spec.proofs.Promises.{length-directory}
+use Rattle.spec.proofs.Promises.{length-directory, open-given}
 use Rattle.spec.proofs.Asking.{not-broken}
 use Rattle.spec.proofs.RowCount.{groups-length}
 use Rattle.spec.proofs.Content.{length-data}
@@ -141,3 +141,10 @@ module _ (file directory : List ℕ) (rec : Record) (h : Head) (gs : List Block)
         (ap (part (rec .«data_start» + bytesBefore b gs) (rec .«data_start» + bytesBefore (b + 1) gs)) (given-written .bytes)
         ∙ block-data (rec .«row_count») gs given-well b (rec .«data_start») (groups 4 (h .count)) (allEntries gs ++ bytesOf 2 (length gs))
         (ap (λ n. length (groups 4 n)) (sym row-count) ∙ sym given-start))
+
+-- ---- what opening gives is given together, and never BROKEN
+
+pub open-unbroken : (file directory directory′ : List ℕ) (rec : Record) → AreBytes file → OpenOwes file directory (value rec, directory′)
+    → broken file directory′ rec ≡ false
+open-unbroken file directory directory′ rec y w =
+    let g = open-given file directory directory′ rec w in given-unbroken file directory′ rec (g .0) (g .1) y (g .2)

@@ -7,6 +7,7 @@ pub mod RowCount
 pub mod Words
 pub mod Content
 pub mod Blocks
+pub mod Verdict
 pub mod Accepted
 pub mod Written
 pub mod Demands
@@ -17,4 +18,5 @@ pub mod Asking
 pub mod Unique
 pub mod Directory
 pub mod Cases
+pub mod Calls
 pub mod WrongBuilds

@@ -1,23 +1,24 @@
 -- What is accepted was written: an accepted file is the file of its blocks, and these are well formed.
 use Prim.Native.Nat.{ℕ, zero, suc, _+_, _-_, _*_, _≤_, _<_}
 use mathlib.Core.Path.{_≡_, refl, sym, ap, ap₂, _∙_, subst₂}
-use mathlib.Core.Bool.{Bool, true, false, _&&_, cond, not, true≢false}
+use mathlib.Core.Bool.{true, false, _&&_, not, true≢false}
 use mathlib.Core.List.{List, [], _∷_, _++_, map, flatMap}
-use mathlib.Core.Option.{Option, none, some}
+use mathlib.Core.Option.{some}
 use native.Mathlib.Nat.{zero-add}
 use native.Mathlib.Omega.{arith}
 use lib.ListN.{length, getD, take, drop, length-map}
 use lib.Seq.{take-at, take-take}
-use lib.Dec.{leb, ltb, eqb}
-use borrow.Author.Tests.{ltb-true, ltb-false, leb-true, eqb-true, eq-eqb, not-false}
+use lib.Dec.{leb, ltb}
+use borrow.Author.Tests.{ltb-true, ltb-false, leb-true, eq-eqb}
 use Rattle.spec.specs.declared.Entry.{Entry}
 use Rattle.spec.specs.Layout.{bytesOf, groups, Block, allData, entryOf, allEntries, written}
-use Rattle.spec.specs.Reading.{limit, blockCount, rowsAt, AreBytes, numberIn, part, Head, ungroups, padded, entryIn, entriesAt, entriesOk, dataSize, dataSizes, contentOk, contentsOk, blocksAt, Verdict, fault, holds, entryCount, entryStart, entriesOf, judge, verdict}
+use Rattle.spec.specs.Reading.{limit, blockCount, rowsAt, AreBytes, numberIn, part, Head, padded, entryIn, entriesAt, entriesOk, dataSize, dataSizes, contentOk, contentsOk, blocksAt, Verdict, holds, entryCount, entryStart, entriesOf, verdict}
 use Rattle.spec.proofs.Tests.{by-test, and-true, true-and}
 use Rattle.spec.proofs.Bytes.{length-part, part-join, part-none, part-all, bytes-part, part-number, getD-part}
 use Rattle.spec.proofs.RowCount.{headOf, Headed, headed}
 use Rattle.spec.proofs.Content.{Block-written, block-written}
 use Rattle.spec.proofs.Blocks.{Well}
+use Rattle.spec.proofs.Verdict.{headIn, Passed, View, refuses, accepts, view}
 use Rattle.spec.proofs.Accepted.{entryFor}
 
 -- ---- entries
@@ -90,12 +91,8 @@ blocks-written count low at to (x ∷ es) file s y o e l k =
 
 -- ---- the file
 
-past : (b : Bool) (k : ℕ) (v : Verdict) (h : Head) (gs : List Block) → cond b (fault k) v ≡ holds h gs → (b ≡ false) × (v ≡ holds h gs)
-past true k v h gs e = absurd (let z : _≡_ {A = ℕ} 0 1 = cc in omega arith)
-past false k v h gs e = (refl, e)
-
 -- the row count at the front, read and not padded, is in the shortest form
-module _ (file : List ℕ) (h : Head) (y : AreBytes file) (p : ungroups 5 (part 0 (length file - 2) file) ≡ some h) (u : padded h file ≡ false) where
+module _ (file : List ℕ) (h : Head) (y : AreBytes file) (p : headIn file ≡ some h) (u : padded h file ≡ false) where
   read : Headed 4 (part 0 (length file - 2) file) h
   read = headed 4 (part 0 (length file - 2) file) h (bytes-part 0 (length file - 2) file y) p
 
@@ -126,25 +123,25 @@ pub record Was-written (file : List ℕ) (h : Head) (gs : List Block) : Type 0 w
   pub well : Well (h .count) 0 gs
   pub bytes : file ≡ written (h .count) gs
 
-judged-written : (file : List ℕ) (h : Head) → AreBytes file → ungroups 5 (part 0 (length file - 2) file) ≡ some h → padded h file ≡ false
-    → h .count ≤ limit → h .start + 4 * entryCount file + 2 ≤ length file → entriesOk (h .count) 0 (entriesOf file) ≡ true
-    → entryStart file - h .start ≡ dataSizes (entriesOf file) → contentsOk (h .count) (entriesOf file) (h .start) file ≡ true
-    → Was-written file h (blocksAt (entriesOf file) (h .start) file)
+passed-written : (file : List ℕ) (h : Head) → AreBytes file → headIn file ≡ some h → Passed file h → Was-written file h (blocksAt (entriesOf file) (h .start) file)
 unfolding written
-judged-written file h y p u lim fits ok sizes contents =
+passed-written file h y p t =
+    let u = t .unpadded in
+    let fits = t .fits in
+    let sizes = t .sizes in
     let n = length file in
     let at = entryStart file in
     let es = entriesOf file in
     let gs = blocksAt es (h .start) file in
     let start = read-start file h y p u in
     let b : Blocks-written (h .count) 0 (h .start) at es file =
-    blocks-written (h .count) 0 (h .start) at es file (entries-some (entryCount file) at file) y ok (omega arith) (omega arith) contents in
+    blocks-written (h .count) 0 (h .start) at es file (entries-some (entryCount file) at file) y (t .entries) (omega arith) (omega arith) (t .contents) in
     let e : entryCount file ≡ length gs = sym (length-entries-at (entryCount file) at file) ∙ ap length (sym (b .entries′)) ∙ length-map gs entryFor in
     let es′ : part at (n - 2) file ≡ allEntries gs =
     sym (entries-written (entryCount file) at (n - 2) file y (omega arith) (omega arith)) ∙ ap (flatMap entryBytes) (sym (b .entries′)) ∙ entry-bytes gs in
     let last : part (n - 2) n file ≡ bytesOf 2 (length gs) = sym (part-number 2 (n - 2) n file y (omega arith) (omega arith)) ∙ ap (bytesOf 2) e in
     record {
-      limited = lim;
+      limited = t .limited;
       head = λ i. record { count = h .count; start = start i };
       well = b .well;
       bytes =
@@ -156,19 +153,11 @@ judged-written file h y p u lim fits ok sizes contents =
     }
 
 pub was-written : (file : List ℕ) (h : Head) (gs : List Block) → AreBytes file → verdict file ≡ holds h gs → Was-written file h gs
-unfolding verdict judge
-was-written file h gs y v = go (ungroups 5 (part 0 (length file - 2) file)) refl v
+was-written file h gs y v = go (verdict file) (view file) v
   where
-    go : (o : Option Head) → ungroups 5 (part 0 (length file - 2) file) ≡ o → judge file o ≡ holds h gs → Was-written file h gs
-    go none p v = absurd (let z : _≡_ {A = ℕ} 0 1 = cc in omega arith)
-    go (some h₀) p v =
-        let v1 = past (padded h₀ file) 5 _ h gs v in
-        let v2 = past (ltb limit (h₀ .count)) 1 _ h gs (v1 .1) in
-        let v3 = past (ltb (length file) (h₀ .start + 4 * entryCount file + 2)) 6 _ h gs (v2 .1) in
-        let v4 = past (not (entriesOk (h₀ .count) 0 (entriesOf file))) 6 _ h gs (v3 .1) in
-        let v5 = past (not (eqb (entryStart file - h₀ .start) (dataSizes (entriesOf file)))) 7 _ h gs (v4 .1) in
-        let v6 = past (not (contentsOk (h₀ .count) (entriesOf file) (h₀ .start) file)) 8 _ h gs (v5 .1) in
+    go : (v : Verdict) → View file v → v ≡ holds h gs → Was-written file h gs
+    go v (refuses k m) e = absurd (let z : _≡_ {A = ℕ} 0 1 = cc in omega arith)
+    go v (accepts h₀ p t) e =
         let same : h₀ ≡ h = cc in
         let blocks : blocksAt (entriesOf file) (h₀ .start) file ≡ gs = cc in
-        subst₂ (Was-written file) same blocks
-        (judged-written file h₀ y p (v1 .0) (ltb-false _ _ (v2 .0)) (ltb-false _ _ (v3 .0)) (not-false _ (v4 .0)) (eqb-true _ _ (not-false _ (v5 .0))) (not-false _ (v6 .0)))
+        subst₂ (Was-written file) same blocks (passed-written file h₀ y p t)
