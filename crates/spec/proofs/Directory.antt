@@ -21,7 +21,8 @@ use Rattle.spec.proofs.Content.{length-data}
 use Rattle.spec.proofs.Blocks.{Well, well-rows}
 use Rattle.spec.proofs.Accepted.{length-all-data, length-written}
 use Rattle.spec.proofs.Written.{Was-written, was-written}
-use Rattle.spec.proofs.Splits.{placesOf, bytes-before-next, bytes-before-le, block-data}
+use Rattle.spec.proofs.Cut.{placesOf}
+use Rattle.spec.proofs.Splits.{bytes-before-next, bytes-before-le, block-data}
 
 -- ---- the directory's words
 

@@ -11,6 +11,7 @@ pub mod Verdict
 pub mod Accepted
 pub mod Written
 pub mod Demands
+pub mod Cut
 pub mod Splits
 pub mod Numbers
 pub mod Promises

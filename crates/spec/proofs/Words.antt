@@ -1,15 +1,15 @@
 -- A dense word and its places: each is read back from the other.
-use Prim.Native.Nat.{ℕ, zero, suc, _+_, _*_, _/_, _%_, _^_, _≤_, _<_}
-use mathlib.Core.Path.{_≡_, refl, sym, ap, ap₂, subst}
+use Prim.Native.Nat.{ℕ, zero, suc, _+_, _-_, _*_, _/_, _%_, _^_, _≤_, _<_}
+use mathlib.Core.Path.{_≡_, refl, sym, ap, ap₂, _∙_, subst}
 use mathlib.Core.Bool.{Bool, true, false}
 use mathlib.Core.List.{List, [], _∷_, _++_}
 use native.Mathlib.Nat.{pow-suc, zero-add, add-zero, suc-add}
 use native.Mathlib.Omega.{arith}
 use lib.Seq.{append-snoc}
-use lib.Dec.{eqb}
-use borrow.Author.Tests.{eqb-true, eqb-false, ne-eqb, eq-eqb}
+use lib.Dec.{ltb, eqb}
+use borrow.Author.Tests.{ltb-true, ltb-false, eqb-true, eqb-false, ne-eqb, eq-eqb}
 use Rattle.spec.specs.Set.{bit, keep, contains}
-use Rattle.spec.specs.Layout.{wordFrom}
+use Rattle.spec.specs.Layout.{wordFrom, word}
 use Rattle.spec.specs.Reading.{bits}
 use Rattle.spec.proofs.Tests.{by-test}
 use Rattle.spec.proofs.Rising.{Rising, rising-lower, rising-widen, rising-append}
@@ -121,3 +121,40 @@ word-bits (suc f) a end w pre rest h r s =
       contains-before (a + suc f) end rest s a (omega arith),
       i,
     ) (omega arith))
+
+-- ---- the same word, as the sum of the powers of two of its places
+
+word-before : (f a p : ℕ) (ps : List ℕ) → p < a → wordFrom f a (p ∷ ps) ≡ wordFrom f a ps
+unfolding wordFrom contains
+word-before zero a p ps h = refl
+word-before (suc f) a p ps h = rw (ne-eqb p a (λ q. omega arith), word-before f (suc a) p ps (omega arith))
+
+word-after : (f a p : ℕ) (ps : List ℕ) → a + f ≤ p → wordFrom f a (p ∷ ps) ≡ wordFrom f a ps
+unfolding wordFrom contains
+word-after zero a p ps h = refl
+word-after (suc f) a p ps h = rw (ne-eqb p a (λ q. omega arith), word-after f (suc a) p ps (omega arith))
+
+word-at : (f a p : ℕ) (ps : List ℕ) → a ≤ p → p < a + f → contains p ps ≡ false → wordFrom f a (p ∷ ps) ≡ 2 ^ (p - a) + wordFrom f a ps
+unfolding wordFrom contains
+word-at zero a p ps h l c = absurd (omega arith)
+word-at (suc f) a p ps h l c =
+    by-test (eqb p a)
+    (λ e.
+      let q : p ≡ a = eqb-true p a e in
+      let z : p - a ≡ 0 = omega arith in
+      rw (e, word-before f (suc a) p ps (omega arith), z, ap (λ d. contains d ps) (sym q) ∙ c) (omega arith))
+    (λ e.
+      let k : a < p = lib.Arith.lt-of-le-ne h (λ q. eqb-false p a e (sym q)) in
+      let n : p - a ≡ suc (p - suc a) = omega arith in
+      rw (e, word-at f (suc a) p ps k (omega arith) c, n) (omega (arith, pow-suc 2 (p - suc a))))
+
+pub word-here : (m p low end : ℕ) (ps : List ℕ) → p / 64 ≡ m → Rising low end (p ∷ ps) → word m (p ∷ ps) ≡ 2 ^ (p % 64) + word m ps
+word-here m p low end ps e r =
+    let n : p - 64 * m ≡ p % 64 = omega arith in
+    word-at 64 (64 * m) p ps (omega arith) (omega arith) (contains-before (suc p) end ps (r .2) p (omega arith)) ∙ ap (λ n. 2 ^ n + word m ps) n
+
+pub word-elsewhere : (m p : ℕ) (ps : List ℕ) → (p / 64 ≡ m → ⊥) → word m (p ∷ ps) ≡ word m ps
+word-elsewhere m p ps n =
+    by-test (ltb p (64 * m)) (λ e. word-before 64 (64 * m) p ps (ltb-true p (64 * m) e))
+    (λ e. let h = ltb-false p (64 * m) e in
+      word-after 64 (64 * m) p ps (let k : m < p / 64 = lib.Arith.lt-of-le-ne (omega arith) (λ q. n (sym q)) in omega arith))
