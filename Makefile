@@ -3,7 +3,8 @@
 .PHONY: all test
 
 all:
-	@rt check cases
+	@mkdir -p target
+	@rt check cases >target/make.log 2>&1 || { tail -n 40 target/make.log; exit 1; }
 	@cat target/log/cases.stdout
 
 test:

@@ -1,11 +1,13 @@
--- Document 01's cases P1 to P12 in one table under one statement, computed.
+-- Document 01's cases P1 to P12 in one table under one statement, P2 as opened, and files at fault: computed.
 use Prim.Native.Nat.{ℕ}
 use mathlib.Core.Path.{_≡_, refl}
+use mathlib.Core.Bool.{false}
 use mathlib.Core.List.{List, [], _∷_, flatMap}
+use Rattle.spec.specs.declared.Record.{Record}
 use Rattle.spec.specs.Set.{rising, contains, rank, next, hits, ranks}
-use Rattle.spec.specs.Layout.{bytesOf, groups, blocks, rowsOf, wordFrom, miniBlock, miniBlocks, dataOf, allData, entryOf, allEntries, written, fileOf}
-use Rattle.spec.specs.Reading.{numberIn, part, ungroups, entryIn, entriesAt, entriesOk, dataSizes, sparsePlaces, placesIn, contentOk, contentsOk, blocksAt, Verdict, fault, holds, judge, verdict}
-use Rattle.spec.specs.Answers.{Said, value, nothing, refused, sayRank, saySelect, sayNext, rowFault, sayWrite, once}
+use Rattle.spec.specs.Layout.{Block, bytesOf, groups, blocks, rowsOf, wordFrom, miniBlock, miniBlocks, dataOf, allData, entryOf, allEntries, written, fileOf}
+use Rattle.spec.specs.Reading.{Head, numberIn, part, ungroups, entryIn, entriesAt, entriesOk, dataSizes, sparsePlaces, placesIn, contentOk, contentsOk, blocksAt, Verdict, fault, holds, judge, verdict, bytesBefore, pairs, directoryOf, Given}
+use Rattle.spec.specs.Answers.{Said, value, nothing, refused, sayRank, saySelect, sayNext, rowFault, sayWrite, once, broken}
 
 pub data Case : Type 0 where
   writes : ℕ → List ℕ → List ℕ → Case
@@ -54,6 +56,36 @@ table =
 pub cases : Every table
 unfolding flatMap rising contains rank next hits bytesOf groups blocks rowsOf wordFrom miniBlock miniBlocks dataOf allData entryOf allEntries written fileOf numberIn part ungroups entryIn entriesAt entriesOk dataSizes sparsePlaces placesIn contentOk contentsOk blocksAt judge verdict rowFault sayWrite once
 cases = (refl, (refl, (refl, (refl, (refl, (refl, (refl, (refl, ((refl, refl), (refl, (refl, (refl, tt))))))))))))
+
+-- ---- P2, opened
+
+abbrev pub directory : List ℕ
+directory = 0 ∷ 0 ∷ 2 ∷ 4 ∷ []
+
+abbrev pub rec : Record
+rec = record { «row_count» = 10; populated = 2; «data_start» = 1 }
+
+abbrev pub head : Head
+head = record { count = 10; start = 1 }
+
+abbrev pub block : Block
+block = record { number = 0; places = 1 ∷ 5 ∷ [] }
+
+pub p2-accepted : verdict p2 ≡ holds head (block ∷ [])
+unfolding flatMap rising rank numberIn part ungroups entryIn entriesAt entriesOk dataSizes sparsePlaces placesIn contentOk contentsOk blocksAt judge verdict
+p2-accepted = refl
+
+pub p2-given : Given p2 directory rec head (block ∷ [])
+unfolding flatMap rank rowsOf bytesBefore pairs directoryOf
+p2-given = record { accepted = p2-accepted; record′ = refl; words = refl }
+
+pub p2-unbroken : broken p2 directory rec ≡ false
+unfolding broken
+p2-unbroken = refl
+
+pub p2-once : (question : List ℕ → Said ℕ) → once p2 question ≡ question (1 ∷ 5 ∷ [])
+unfolding once flatMap rowsOf
+p2-once question = rw p2-accepted
 
 -- ---- the smallest files that show each refusal of opening, and where two faults meet, the one that comes first
 

@@ -140,13 +140,13 @@ word-at zero a p ps h l c = absurd (omega arith)
 word-at (suc f) a p ps h l c =
     by-test (eqb p a)
     (λ e.
-      let q : p ≡ a = eqb-true p a e in
-      let z : p - a ≡ 0 = omega arith in
-      rw (e, word-before f (suc a) p ps (omega arith), z, ap (λ d. contains d ps) (sym q) ∙ c) (omega arith))
+    let q : p ≡ a = eqb-true p a e in
+    let z : p - a ≡ 0 = omega arith in
+    rw (e, word-before f (suc a) p ps (omega arith), z, ap (λ d. contains d ps) (sym q) ∙ c) (omega arith))
     (λ e.
-      let k : a < p = lib.Arith.lt-of-le-ne h (λ q. eqb-false p a e (sym q)) in
-      let n : p - a ≡ suc (p - suc a) = omega arith in
-      rw (e, word-at f (suc a) p ps k (omega arith) c, n) (omega (arith, pow-suc 2 (p - suc a))))
+    let k : a < p = lib.Arith.lt-of-le-ne h (λ q. eqb-false p a e (sym q)) in
+    let n : p - a ≡ suc (p - suc a) = omega arith in
+    rw (e, word-at f (suc a) p ps k (omega arith) c, n) (omega (arith, pow-suc 2 (p - suc a))))
 
 pub word-here : (m p low end : ℕ) (ps : List ℕ) → p / 64 ≡ m → Rising low end (p ∷ ps) → word m (p ∷ ps) ≡ 2 ^ (p % 64) + word m ps
 word-here m p low end ps e r =
@@ -157,4 +157,4 @@ pub word-elsewhere : (m p : ℕ) (ps : List ℕ) → (p / 64 ≡ m → ⊥) → 
 word-elsewhere m p ps n =
     by-test (ltb p (64 * m)) (λ e. word-before 64 (64 * m) p ps (ltb-true p (64 * m) e))
     (λ e. let h = ltb-false p (64 * m) e in
-      word-after 64 (64 * m) p ps (let k : m < p / 64 = lib.Arith.lt-of-le-ne (omega arith) (λ q. n (sym q)) in omega arith))
+    word-after 64 (64 * m) p ps (let k : m < p / 64 = lib.Arith.lt-of-le-ne (omega arith) (λ q. n (sym q)) in omega arith))

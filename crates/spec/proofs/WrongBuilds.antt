@@ -1,56 +1,27 @@
 -- Wrong programs, each refuted by what its call owes. Most are tried on P2: rows 1, 5 of 10.
 use Prim.Native.Nat.{ℕ, suc, _+_}
-use mathlib.Core.Path.{_≡_, refl, ap, _∙_}
-use mathlib.Core.Bool.{false}
+use mathlib.Core.Path.{_≡_, refl, sym, ap, _∙_}
 use mathlib.Core.List.{List, [], _∷_, _++_, flatMap}
 use mathlib.Core.Option.{Option, none}
 use native.Mathlib.Omega.{arith}
 use lib.ListN.{length, getD, replicate}
 use Rattle.spec.specs.declared.Record.{Record}
-use Rattle.spec.specs.Set.{rising, contains, rank, next, hits, below}
-use Rattle.spec.specs.Layout.{Block, bytesOf, groups, blocks, rowsOf, allData, allEntries, written, fileOf}
-use Rattle.spec.specs.Reading.{numberIn, part, Head, ungroups, entryIn, entriesAt, entriesOk, dataSizes, sparsePlaces, placesIn, contentOk, contentsOk, blocksAt, holds, judge, verdict, bytesBefore, pairs, directoryOf, Given}
-use Rattle.spec.specs.Answers.{Said, value, nothing, refused, code, rowFault, sayWrite, WriteOwes, sayOpen, OpenOwes, once, OnceOwes, CallOwes, orNothing, sayContains, sayRank, sayLookup, saySelect, sayNext, broken, Asked}
+use Rattle.spec.specs.Set.{contains, rank, next, hits, below}
+use Rattle.spec.specs.Layout.{bytesOf, groups, blocks, rowsOf, allData, allEntries, written, fileOf}
+use Rattle.spec.specs.Reading.{part, ungroups, judge, verdict, bytesBefore, pairs, directoryOf}
+use Rattle.spec.specs.Answers.{Said, value, nothing, refused, code, rowFault, sayWrite, WriteOwes, sayOpen, OpenOwes, once, OnceOwes, CallOwes, orNothing, sayContains, sayRank, sayLookup, saySelect, sayNext, Asked}
 use Rattle.spec.specs.Answers.{ContainsOwes, RankOwes, LookupOwes, NextOwes, SelectOwes, LookupBatchOwes, SelectBatchOwes, PageOwes}
 use Rattle.spec.proofs.Questions.{below-all}
 use Rattle.spec.proofs.Asking.{select-late, lookups-owe, selects-late, selects-owe, page-owes}
-use Rattle.spec.proofs.Cases.{p2}
+use Rattle.spec.proofs.Cases.{p2, directory, rec, head, block, p2-accepted, p2-given, p2-unbroken, p2-once}
 
--- ---- P2, opened
-
-abbrev directory : List ℕ
-directory = 0 ∷ 0 ∷ 2 ∷ 4 ∷ []
-
-abbrev rec : Record
-rec = record { «row_count» = 10; populated = 2; «data_start» = 1 }
-
-abbrev head : Head
-head = record { count = 10; start = 1 }
-
-abbrev block : Block
-block = record { number = 0; places = 1 ∷ 5 ∷ [] }
-
-p2-accepted : verdict p2 ≡ holds head (block ∷ [])
-unfolding flatMap rising rank numberIn part ungroups entryIn entriesAt entriesOk dataSizes sparsePlaces placesIn contentOk contentsOk blocksAt judge verdict
-p2-accepted = refl
-
-p2-given : Given p2 directory rec head (block ∷ [])
-unfolding flatMap rank rowsOf bytesBefore pairs directoryOf
-p2-given = record { accepted = p2-accepted; record′ = refl; words = refl }
-
-p2-unbroken : broken p2 directory rec ≡ false
-unfolding broken
-p2-unbroken = refl
+-- ---- how they are refuted
 
 -- what a question of P2 owes
 owed : {O : Type 0} (late : Option ℕ) (refuse : ℕ → O) (loose : O → Type 0) (exact : List ℕ → O) (o : O) → late ≡ none
     → Asked p2 directory rec late refuse loose exact o → o ≡ exact (1 ∷ 5 ∷ [])
 unfolding flatMap rowsOf
 owed late refuse loose exact o e a = (let b = rw (p2-unbroken, e) at a in b .1 head (block ∷ []) p2-given)
-
-p2-once : (question : List ℕ → Said ℕ) → once p2 question ≡ question (1 ∷ 5 ∷ [])
-unfolding once flatMap rowsOf
-p2-once question = rw p2-accepted
 
 -- two things that a number tells apart
 apart : {O : Type 0} (f : O → ℕ) (a b : O) → a ≡ b → (f a ≡ f b → ⊥) → ⊥
@@ -239,24 +210,29 @@ wrong-page-end : PageOwes p2 directory rec 2 (7 ∷ 7 ∷ []) (refused 9, 7 ∷ 
 unfolding kind
 wrong-page-end w = apart kind _ _ (page-owes p2 directory rec p2-unbroken 2 (7 ∷ 7 ∷ []) _ w (omega arith) .0) (λ e. omega arith)
 
--- ---- one-shot forms
+-- ---- one-shot forms, each with its question
 
 -- answers HEADER to all bytes
-wrong-once-header : (question : List ℕ → Said ℕ) → ((xs : List ℕ) → kind (question xs) ≡ 0) → ((file : List ℕ) → OnceOwes file question (refused 5)) → ⊥
+wrong-once-header : (question : List ℕ → Said ℕ) → (kind (question (1 ∷ 5 ∷ [])) ≡ 7 → ⊥) → ((file : List ℕ) → OnceOwes file question (refused 5)) → ⊥
 unfolding kind
-wrong-once-header question v w = apart kind _ _ (w p2 ∙ p2-once question) (λ e. omega (arith, v (1 ∷ 5 ∷ [])))
+wrong-once-header question v w = apart kind _ _ (w p2 ∙ p2-once question) (λ e. v (sym e))
 
--- says no to all bytes
-wrong-once-no : ((file : List ℕ) (d : ℕ) → OnceOwes file (sayContains d) (value 0)) → ⊥
-unfolding once verdict judge ungroups part
-wrong-once-no w = apart code _ _ (w [] 0) (λ e. omega arith)
+-- answers all bytes as the empty set
+wrong-once-empty : (question : List ℕ → Said ℕ) → (kind (question []) ≡ 7 → ⊥) → ((file : List ℕ) → OnceOwes file question (question [])) → ⊥
+unfolding kind once verdict judge ungroups part
+wrong-once-empty question v w = apart kind _ _ (w []) v
 
--- ---- C calls
+-- ---- C calls, each with its question
 
 -- gives the refusal number alone
-wrong-call-number : ((file : List ℕ) (d : ℕ) → CallOwes file (sayRank d) 5) → ⊥
+wrong-call-number : (question : List ℕ → Said ℕ) → ((file : List ℕ) → CallOwes file question 5) → ⊥
 unfolding once verdict judge ungroups part
-wrong-call-number w = let e : _≡_ {A = ℕ} 5 4294967301 = w [] 0 in omega arith
+wrong-call-number question w = let e : _≡_ {A = ℕ} 5 4294967301 = w [] in omega arith
+
+-- gives 0 for what it refuses
+wrong-call-zero : (question : List ℕ → Said ℕ) → ((file : List ℕ) → CallOwes file question 0) → ⊥
+unfolding once verdict judge ungroups part
+wrong-call-zero question w = let e : _≡_ {A = ℕ} 0 4294967301 = w [] in omega arith
 
 -- gives 0 for "none"
 wrong-call-none : ((file : List ℕ) (t : ℕ) → CallOwes file (sayNext t) 0) → ⊥

@@ -22,6 +22,7 @@ groups (suc f) n = cond (ltb n 128) ((n + 128) ∷ []) (n % 128 ∷ groups f (n 
 
 -- ---- blocks
 
+-- a block's number of rows
 abbrev pub size : ℕ
 size = 65536
 
@@ -35,6 +36,7 @@ abbrev pub join : Bool → ℕ → ℕ → Block → List Block → List Block
 join true b p g gs = record { number = b; places = p ∷ g .places } ∷ gs
 join false b p g gs = record { number = b; places = p ∷ [] } ∷ g ∷ gs
 
+-- the same, where there may be no block yet
 abbrev pub push : ℕ → ℕ → List Block → List Block
 push b p [] = record { number = b; places = p ∷ [] } ∷ []
 push b p (g ∷ gs) = join (eqb b (g .number)) b p g gs
@@ -44,10 +46,11 @@ unfoldable pub blocks : List ℕ → List Block
 blocks [] = []
 blocks (r ∷ rs) = push (r / size) (r % size) (blocks rs)
 
--- the rows of blocks
+-- the rows of a block
 abbrev pub rowsIn : Block → List ℕ
 rowsIn g = map (λ p. g .number * size + p) (g .places)
 
+-- the rows of blocks
 unfoldable pub rowsOf : List Block → List ℕ
 rowsOf gs = flatMap rowsIn gs
 
@@ -83,6 +86,7 @@ denseData ps = miniBlocks 1024 0 ps
 abbrev pub dense : ℕ → Bool
 dense n = leb 5120 n
 
+-- a block's data
 unfoldable pub dataOf : List ℕ → List ℕ
 dataOf ps = cond (dense (length ps)) (denseData ps) (sparseData ps)
 
@@ -96,13 +100,16 @@ allData gs = flatMap (λ g. dataOf (g .places)) gs
 unfoldable pub entryOf : Block → List ℕ
 entryOf g = bytesOf 2 (g .number) ++ bytesOf 2 (length (g .places) - 1)
 
+-- the entries of all blocks
 unfoldable pub allEntries : List Block → List ℕ
 allEntries gs = flatMap entryOf gs
 
 -- ---- the file
 
+-- row count, data, entries, number of entries
 unfoldable pub written : ℕ → List Block → List ℕ
 written count gs = groups 4 count ++ (allData gs ++ (allEntries gs ++ bytesOf 2 (length gs)))
 
+-- the file of a row count and a set of rows
 unfoldable pub fileOf : ℕ → List ℕ → List ℕ
 fileOf count rows = written count (blocks rows)

@@ -27,6 +27,7 @@ rowsAt count b = min size (count - b * size)
 
 -- ---- bytes, numbers and parts
 
+-- bytes are numbers below 256
 abbrev pub AreBytes : List ℕ → Type 0
 AreBytes bs = (i : ℕ) → getD bs i 0 < 256
 
@@ -79,10 +80,11 @@ entriesOk count low (e ∷ es) =
     leb low (e .number) && ltb (e .number) (blockCount count) && leb (e .rows) (rowsAt count (e .number))
     && entriesOk count (suc (e .number)) es
 
--- the data bytes that n rows in a block call for, and all entries
+-- the data bytes that n rows in a block call for
 abbrev pub dataSize : ℕ → ℕ
 dataSize n = cond (dense n) 10240 (2 * n)
 
+-- the same of all entries
 unfoldable pub dataSizes : List Entry → ℕ
 dataSizes [] = 0
 dataSizes (e ∷ es) = dataSize (e .rows) + dataSizes es
@@ -99,10 +101,11 @@ unfoldable pub bits : ℕ → ℕ → ℕ → List ℕ
 bits zero p w = []
 bits (suc f) p w = keep (eqb (w % 2) 1) p (bits f (suc p) (w / 2))
 
--- the word and the running count that mini-block m stores
+-- the word that mini-block m stores
 abbrev pub wordAt : ℕ → List ℕ → ℕ
 wordAt m bs = numberIn (part (10 * m) (10 * m + 8) bs)
 
+-- the running count that mini-block m stores
 abbrev pub countAt : ℕ → List ℕ → ℕ
 countAt m bs = numberIn (part (10 * m + 8) (10 * m + 10) bs)
 
@@ -132,6 +135,7 @@ contentsOk count (e ∷ es) at file =
     contentOk (e .rows) (rowsAt count (e .number)) (part at (at + dataSize (e .rows)) file)
     && contentsOk count es (at + dataSize (e .rows)) file
 
+-- the blocks that entries and data say
 unfoldable pub blocksAt : List Entry → ℕ → List ℕ → List Block
 blocksAt [] at file = []
 blocksAt (e ∷ es) at file =
@@ -144,16 +148,19 @@ pub data Verdict : Type 0 where
   fault : ℕ → Verdict
   holds : Head → List Block → Verdict
 
--- the last two bytes: the number of entries; and where the entries begin
+-- the last two bytes: the number of entries
 abbrev pub entryCount : List ℕ → ℕ
 entryCount file = numberIn (part (length file - 2) (length file) file)
 
+-- where the entries begin
 abbrev pub entryStart : List ℕ → ℕ
 entryStart file = length file - 2 - 4 * entryCount file
 
+-- all entries of a file
 abbrev pub entriesOf : List ℕ → List Entry
 entriesOf file = entriesAt (entryCount file) (entryStart file) file
 
+-- 5: not ended, or padded; 1; 6: entries overlap the row count, or are at fault; 7; 8
 unfoldable pub judge : List ℕ → Option Head → Verdict
 judge file none = fault 5
 judge file (some h) =
@@ -171,13 +178,15 @@ verdict file = judge file (ungroups 5 (part 0 (length file - 2) file))
 
 -- ---- the record and the directory
 
+-- row count, n, where the data starts
 abbrev pub recordOf : Head → List Block → Record
 recordOf h gs = record { «row_count» = h .count; populated = length (rowsOf gs); «data_start» = h .start }
 
--- the populated rows, and the data bytes, in all blocks before block b
+-- the populated rows in all blocks before block b
 abbrev pub rowsBefore : ℕ → List Block → ℕ
 rowsBefore b gs = rank (b * size) (rowsOf gs)
 
+-- the data bytes of all blocks before block b
 unfoldable pub bytesBefore : ℕ → List Block → ℕ
 bytesBefore b [] = 0
 bytesBefore b (g ∷ gs) = bit (ltb (g .number) b) * dataSize (length (g .places)) + bytesBefore b gs
@@ -191,6 +200,7 @@ pairs (suc f) b gs = rowsBefore b gs ∷ bytesBefore b gs ∷ pairs f (suc b) gs
 unfoldable pub directoryOf : ℕ → List Block → List ℕ
 directoryOf count gs = pairs (suc (blockCount count)) 0 gs
 
+-- 2(B+1)
 abbrev pub directoryLength : ℕ → ℕ
 directoryLength count = 2 * (blockCount count + 1)
 

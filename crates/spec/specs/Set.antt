@@ -39,22 +39,25 @@ unfoldable pub next : ℕ → List ℕ → Option ℕ
 next t [] = none
 next t (x ∷ xs) = cond (leb t x) (some x) (next t xs)
 
+-- q before the others, if the test says so
 abbrev pub keep : Bool → ℕ → List ℕ → List ℕ
 keep true q qs = q ∷ qs
 keep false q qs = qs
 
--- batch lookup: the questions that are members, in question order, repeats included; and their ranks
+-- batch lookup: the questions that are members, in question order, repeats included
 unfoldable pub hits : List ℕ → List ℕ → List ℕ
 hits xs [] = []
 hits xs (q ∷ qs) = keep (contains q xs) q (hits xs qs)
 
+-- the ranks of rows
 abbrev pub ranks : List ℕ → List ℕ → List ℕ
 ranks xs qs = map (λ q. rank q xs) qs
 
--- batch select: the rows of ranks, each of which has to be below n
+-- batch select: the rows of ranks
 abbrev pub selects : List ℕ → List ℕ → List ℕ
 selects xs ks = map (λ k. select k xs) ks
 
+-- every one is below n
 unfoldable pub below : ℕ → List ℕ → Bool
 below n [] = true
 below n (k ∷ ks) = ltb k n && below n ks
