@@ -1,1 +1,1 @@
-pub mod SetLaws
+pub mod BatchLaws

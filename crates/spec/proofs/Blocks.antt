@@ -81,8 +81,11 @@ from-well count low b (g ∷ gs) h w = (
   from-well count ((g .number + 1) * size) (suc (g .number)) gs (omega arith) (w .4),
 )
 
+well-from : (count b : ℕ) (rows : List ℕ) → Rising (b * size) count rows → Well count b (blocks rows)
+well-from count b rows r = from-well count (b * size) b (blocks rows) (omega arith) (from-rows count (b * size) rows r)
+
 pub well-blocks : (count : ℕ) (rows : List ℕ) → Rising 0 count rows → Well count 0 (blocks rows)
-well-blocks count rows r = from-well count 0 0 (blocks rows) (omega arith) (from-rows count 0 rows r)
+well-blocks count rows r = well-from count 0 rows r
 
 -- ---- the blocks of the rows of well-formed blocks are these blocks
 
@@ -113,6 +116,11 @@ run b low p (q ∷ qs) rest gs e a r =
     push-row b p (blocks (map (λ q. b * size + q) (q ∷ qs) ++ rest)) (r .1)
     ∙ ap (push b p) (run b (suc p) q qs rest gs e a (r .2))
     ∙ ap (λ t. join t b p (record { number = b; places = q ∷ qs }) gs) (eq-eqb b b refl)
+
+pub blocks-run : (count b : ℕ) (ps rest : List ℕ) → 0 < length ps → Rising 0 size ps → Rising (suc b * size) count rest
+    → blocks (map (λ p. b * size + p) ps ++ rest) ≡ record { number = b; places = ps } ∷ blocks rest
+blocks-run count b [] rest h r s = absurd (omega arith)
+blocks-run count b (p ∷ ps) rest h r s = run b 0 p ps rest (blocks rest) refl (apart count b (blocks rest) (well-from count (suc b) rest s)) r
 
 pub blocks-rows : (count low : ℕ) (gs : List Block) → Well count low gs → blocks (rowsOf gs) ≡ gs
 unfolding blocks rowsOf flatMap

@@ -2,6 +2,7 @@ pub mod Tests
 pub mod Rising
 pub mod Questions
 pub mod Batches
+pub mod Steps
 pub mod Bytes
 pub mod RowCount
 pub mod Words

@@ -4,7 +4,7 @@ use mathlib.Core.Path.{sym, _∙_}
 use native.Mathlib.Omega.{arith}
 use lib.ListN.{length}
 use Rattle.spec.specs.Set.{contains}
-use Rattle.cases.proofs.SetLaws.{Left, left-none, left-some, left-more, left-all, contains-first, contains-later}
+use Rattle.spec.proofs.Steps.{Left, left-none, left-some, left-more, left-all, contains-first, contains-later}
 use Rattle.cases.proofs.set.contains.Statement.{statement}
 use Rattle.cases.proofs.set.contains.Tie as tie
 

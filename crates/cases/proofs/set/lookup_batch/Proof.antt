@@ -4,7 +4,7 @@ use mathlib.Core.Path.{sym, _∙_}
 use native.Mathlib.Omega.{arith}
 use borrow.Author.Needs.{needs}
 use lib.ListN.{length}
-use Rattle.cases.proofs.SetLaws.{Batching, batching-none, batching-hit, batching-miss, batching-all}
+use Rattle.cases.proofs.BatchLaws.{Batching, batching-none, batching-hit, batching-miss, batching-all}
 use Rattle.cases.proofs.set.lookup_batch.Statement.{statement}
 use Rattle.cases.proofs.set.lookup_batch.Tie as tie
 

@@ -5,7 +5,7 @@ use native.Mathlib.Omega.{arith}
 use lib.ListN.{length}
 use Rattle.spec.specs.Set.{next}
 use Rattle.spec.specs.Answers.{orNothing}
-use Rattle.cases.proofs.SetLaws.{Left, left-none, left-some, left-more, left-all, next-first, next-later}
+use Rattle.spec.proofs.Steps.{Left, left-none, left-some, left-more, left-all, next-first, next-later}
 use Rattle.cases.proofs.set.next.Statement.{statement}
 use Rattle.cases.proofs.set.next.Tie as tie
 

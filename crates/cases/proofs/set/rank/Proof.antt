@@ -3,7 +3,7 @@ use Prim.Native.Nat.{_+_, _-_, _≤_}
 use native.Mathlib.Omega.{arith}
 use lib.ListN.{length}
 use Rattle.spec.specs.Set.{rank}
-use Rattle.cases.proofs.SetLaws.{Left, left-none, left-more, left-all, rank-below, rank-above}
+use Rattle.spec.proofs.Steps.{Left, left-none, left-more, left-all, rank-below, rank-above}
 use Rattle.cases.proofs.set.rank.Statement.{statement}
 use Rattle.cases.proofs.set.rank.Tie as tie
 

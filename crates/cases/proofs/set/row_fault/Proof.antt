@@ -4,7 +4,7 @@ use mathlib.Core.Path.{sym, ap, _∙_}
 use native.Mathlib.Omega.{arith}
 use lib.ListN.{length}
 use Rattle.spec.specs.Answers.{value, unless, rowFault}
-use Rattle.cases.proofs.SetLaws.{Left, left-none, left-some, left-more, left-all, fault-order, fault-range, fault-later}
+use Rattle.spec.proofs.Steps.{Left, left-none, left-some, left-more, left-all, fault-order, fault-range, fault-later}
 use Rattle.cases.proofs.set.row_fault.Statement.{statement}
 use Rattle.cases.proofs.set.row_fault.Tie as tie
 
