@@ -11,7 +11,7 @@ use borrow.Author.Tests.{lt-ltb, le-leb}
 use Rattle.spec.specs.declared.Entry.{Entry}
 use Rattle.spec.specs.Layout.{bytesOf, groups, size, Block, dataOf, allData, entryOf, allEntries, written}
 use Rattle.spec.specs.Reading.{limit, blockCount, rowsAt, numberIn, part, ungroups, entryIn, entriesAt, entriesOk, dataSize, dataSizes, placesIn, contentOk, contentsOk, blocksAt, holds, entryCount, entryStart, entriesOf, verdict}
-use Rattle.spec.proofs.Bytes.{length-bytes, number-bytes, part-at, regroup, next-part, longer}
+use Rattle.spec.proofs.Bytes.{length-bytes, number-bytes, part-at, regroup, next-part, longer, entry-back}
 use Rattle.spec.proofs.Rising.{rising-length}
 use Rattle.spec.proofs.RowCount.{headOf, read-back, shortest-unpadded}
 use Rattle.spec.proofs.Content.{length-data, places-back, content-back}
@@ -38,27 +38,15 @@ length-all-data (g ∷ gs) = length-append (dataOf (g .places)) (allData gs) ∙
 
 -- ---- entries
 
-entry-back : (g : Block) → g .number < size → 0 < length (g .places) → length (g .places) ≤ size → entryIn (entryOf g) ≡ entryFor g
-unfolding entryIn entryOf
-entry-back g h p l =
-    let N = bytesOf 2 (g .number) in
-    let R = bytesOf 2 (length (g .places) - 1) in
-    let n : numberIn (part 0 2 (N ++ R)) ≡ g .number = ap numberIn (part-at [] N R 0 2 refl (omega (arith, length-bytes 2 (g .number)))) ∙ number-bytes 2 (g .number) h in
-    let r : numberIn (part 2 4 (N ++ R)) ≡ length (g .places) - 1 =
-    ap (λ l. numberIn (part 2 4 (N ++ l))) (sym (append-nil R))
-    ∙ ap numberIn (part-at N R [] 2 4 (length-bytes 2 (g .number)) (omega (arith, length-bytes 2 (length (g .places) - 1)))) ∙ number-bytes 2 (length (g .places) - 1) (omega arith) in
-    let e : numberIn (part 2 4 (N ++ R)) + 1 ≡ length (g .places) = omega arith in
-    λ i. record { number = n i; rows = e i }
-
 entries-back : (count low at : ℕ) (gs : List Block) (pre rest : List ℕ) → count ≤ limit → Well count low gs → length pre ≡ at
     → entriesAt (length gs) at (pre ++ (allEntries gs ++ rest)) ≡ map entryFor gs
-unfolding entriesAt allEntries flatMap
+unfolding entriesAt allEntries flatMap entryOf
 entries-back count low at [] pre rest h w l = refl
 entries-back count low at (g ∷ gs) pre rest h w l =
     let n = length-entry g in
     ap₂ (λ e es. e ∷ es)
     (ap entryIn (next-part pre (entryOf g) (allEntries gs) rest at (at + 4) l (omega arith))
-    ∙ entry-back g (omega (arith, w .1)) (w .2) (omega (arith, rising-length 0 (rowsAt count (g .number)) (g .places) (w .3))))
+    ∙ entry-back (entryFor g) (omega (arith, w .1)) (w .2) (omega (arith, rising-length 0 (rowsAt count (g .number)) (g .places) (w .3))))
     (ap (entriesAt (length gs) (at + 4)) (regroup pre (entryOf g) (allEntries gs) rest)
     ∙ entries-back count (suc (g .number)) (at + 4) gs (pre ++ entryOf g) rest h (w .4) (longer pre (entryOf g) at (at + 4) l (omega arith)))
 

@@ -9,8 +9,9 @@ use lib.ListN.{length, getD, take, drop, length-append, length-take, List·getD-
 use lib.Seq.{take-at, drop-at, take-all, take-add, drop-drop, length-take-le, getD-take, getD-drop}
 use lib.Dec.{ltb}
 use borrow.Author.Tests.{ltb-true, ltb-false}
-use Rattle.spec.specs.Layout.{bytesOf}
-use Rattle.spec.specs.Reading.{AreBytes, numberIn, part}
+use Rattle.spec.specs.declared.Entry.{Entry}
+use Rattle.spec.specs.Layout.{bytesOf, entryBytes}
+use Rattle.spec.specs.Reading.{AreBytes, numberIn, part, entryIn}
 
 -- ---- numbers
 
@@ -106,3 +107,22 @@ next-part pre x y rest a b p q = rw (append-assoc x y rest) (part-at pre x (y ++
 
 pub longer : (pre x : List ℕ) (a b : ℕ) → length pre ≡ a → a + length x ≡ b → length (pre ++ x) ≡ b
 longer pre x a b p q = length-append pre x ∙ omega arith
+
+-- ---- an entry and its four bytes: each gives the other back
+
+-- an entry is read back as it was written: 65,536 rows fit, stored as 65535
+pub entry-back : (e : Entry) → e .number < 65536 → 1 ≤ e .rows → e .rows ≤ 65536 → entryIn (entryBytes e) ≡ e
+unfolding entryIn part bytesOf
+entry-back e n l h =
+    let number : numberIn (bytesOf 2 (e .number)) ≡ e .number = number-bytes 2 (e .number) n in
+    let rows : numberIn (bytesOf 2 (e .rows - 1)) + 1 ≡ e .rows = ap (λ r. r + 1) (number-bytes 2 (e .rows - 1) (omega arith)) ∙ omega arith in
+    λ i. record { number = number i; rows = rows i }
+
+-- four bytes are those of the entry that they say
+pub bytes-back : (bs : List ℕ) → AreBytes bs → length bs ≡ 4 → entryBytes (entryIn bs) ≡ bs
+unfolding entryIn
+bytes-back bs y h =
+    let rows : numberIn (part 2 4 bs) + 1 - 1 ≡ numberIn (part 2 4 bs) = omega arith in
+    ap₂ _++_ (part-number 2 0 2 bs y (omega arith) (omega arith)) (ap (bytesOf 2) rows ∙ part-number 2 2 4 bs y (omega arith) (omega arith))
+    ∙ part-join 0 2 4 bs (omega arith) (omega arith)
+    ∙ rw h at (part-all bs)

@@ -25,12 +25,12 @@ groups-length (suc f) n = go (ltb n 128) (groups-length f (n / 128))
     go true i = (omega arith, omega arith)
     go false i = (omega arith, omega arith)
 
-groups-small : (f n : ℕ) → n < 128 → groups f n ≡ (n + 128) ∷ []
+pub groups-small : (f n : ℕ) → n < 128 → groups f n ≡ (n + 128) ∷ []
 unfolding groups
 groups-small zero n h = let e : n % 128 ≡ n = omega arith in ap (λ k. (k + 128) ∷ []) e
 groups-small (suc f) n h = cond-yes (ltb n 128) _ _ (lt-ltb n 128 h)
 
-groups-large : (f n : ℕ) → 128 ≤ n → groups (suc f) n ≡ n % 128 ∷ groups f (n / 128)
+pub groups-large : (f n : ℕ) → 128 ≤ n → groups (suc f) n ≡ n % 128 ∷ groups f (n / 128)
 unfolding groups
 groups-large f n h = cond-no (ltb n 128) _ _ (le-ltb n 128 h)
 

@@ -11,10 +11,10 @@ use lib.Seq.{take-at, take-take}
 use lib.Dec.{leb, ltb}
 use borrow.Author.Tests.{ltb-true, ltb-false, leb-true, eq-eqb}
 use Rattle.spec.specs.declared.Entry.{Entry}
-use Rattle.spec.specs.Layout.{bytesOf, groups, Block, allData, entryOf, allEntries, written}
-use Rattle.spec.specs.Reading.{limit, blockCount, rowsAt, AreBytes, numberIn, part, Head, padded, entryIn, entriesAt, entriesOk, dataSize, dataSizes, contentOk, contentsOk, blocksAt, Verdict, holds, entryCount, entryStart, entriesOf, verdict}
+use Rattle.spec.specs.Layout.{bytesOf, groups, entryBytes, Block, allData, entryOf, allEntries, written}
+use Rattle.spec.specs.Reading.{limit, blockCount, rowsAt, AreBytes, part, Head, padded, entryIn, entriesAt, entriesOk, dataSize, dataSizes, contentOk, contentsOk, blocksAt, Verdict, holds, entryCount, entryStart, entriesOf, verdict}
 use Rattle.spec.proofs.Tests.{by-test, and-true, true-and}
-use Rattle.spec.proofs.Bytes.{length-part, part-join, part-none, part-all, bytes-part, part-number, getD-part}
+use Rattle.spec.proofs.Bytes.{length-part, part-join, part-none, part-all, bytes-part, part-number, getD-part, bytes-back}
 use Rattle.spec.proofs.RowCount.{headOf, Headed, headed}
 use Rattle.spec.proofs.Content.{Block-written, block-written}
 use Rattle.spec.proofs.Blocks.{Well}
@@ -23,27 +23,16 @@ use Rattle.spec.proofs.Accepted.{entryFor}
 
 -- ---- entries
 
--- the bytes of an entry
-entryBytes : Entry → List ℕ
-entryBytes e = bytesOf 2 (e .number) ++ bytesOf 2 (e .rows - 1)
-
-entry-written : (bs : List ℕ) → AreBytes bs → length bs ≡ 4 → entryBytes (entryIn bs) ≡ bs
-unfolding entryIn entryBytes
-entry-written bs y l =
-    let n : numberIn (part 2 4 bs) + 1 - 1 ≡ numberIn (part 2 4 bs) = omega arith in
-    ap₂ (λ a b. a ++ b) (part-number 2 0 2 bs y (omega arith) (omega arith)) (ap (bytesOf 2) n ∙ part-number 2 2 4 bs y (omega arith) (omega arith))
-    ∙ part-join 0 2 4 bs (omega arith) (omega arith) ∙ ap (λ n. part 0 n bs) (sym l) ∙ part-all bs
-
 entries-written : (e at to : ℕ) (file : List ℕ) → AreBytes file → at + 4 * e ≡ to → to ≤ length file → flatMap entryBytes (entriesAt e at file) ≡ part at to file
 unfolding entriesAt flatMap
 entries-written zero at to file y p l = sym (part-none at to file (omega arith))
 entries-written (suc e) at to file y p l =
-    ap₂ (λ a b. a ++ b) (entry-written (part at (at + 4) file) (bytes-part at (at + 4) file y) (length-part at (at + 4) file (omega arith) (omega arith) ∙ omega arith))
+    ap₂ (λ a b. a ++ b) (bytes-back (part at (at + 4) file) (bytes-part at (at + 4) file y) (length-part at (at + 4) file (omega arith) (omega arith) ∙ omega arith))
     (entries-written e (at + 4) to file y (omega arith) l)
     ∙ part-join at (at + 4) to file (omega arith) (omega arith)
 
 entry-bytes : (gs : List Block) → flatMap entryBytes (map entryFor gs) ≡ allEntries gs
-unfolding allEntries flatMap entryBytes entryOf
+unfolding allEntries flatMap entryOf
 entry-bytes [] = refl
 entry-bytes (g ∷ gs) = ap (λ t. entryOf g ++ t) (entry-bytes gs)
 

@@ -6,6 +6,7 @@ use mathlib.Core.Bool.{Bool, true, false, cond}
 use mathlib.Core.List.{List, [], _∷_, _++_, map, flatMap}
 use lib.ListN.{length}
 use lib.Dec.{leb, ltb, eqb}
+use Rattle.spec.specs.declared.Entry.{Entry}
 use Rattle.spec.specs.Set.{bit, contains, rank}
 
 -- all numbers little-endian: n in w bytes
@@ -96,9 +97,13 @@ allData gs = flatMap (λ g. dataOf (g .places)) gs
 
 -- ---- entries
 
--- block number (2), rows in it minus one (2)
+-- an entry in four bytes: block number (2), rows in it minus one (2)
+abbrev pub entryBytes : Entry → List ℕ
+entryBytes e = bytesOf 2 (e .number) ++ bytesOf 2 (e .rows - 1)
+
+-- the entry of a block
 unfoldable pub entryOf : Block → List ℕ
-entryOf g = bytesOf 2 (g .number) ++ bytesOf 2 (length (g .places) - 1)
+entryOf g = entryBytes (record { number = g .number; rows = length (g .places) })
 
 -- the entries of all blocks
 unfoldable pub allEntries : List Block → List ℕ
