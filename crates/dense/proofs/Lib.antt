@@ -1,0 +1,10 @@
+pub mod BitLaws
+pub mod LowestLaws
+pub mod MiniLaws
+pub mod GatherLaws
+pub mod PlaceLaws
+pub mod DenseLaws
+pub mod SelectLaws
+pub mod NextLaws
+pub mod ContentLaws
+pub mod WriteLaws

@@ -1,0 +1,97 @@
+-- The mini-block of the place with k places below it: it is the last whose running count is at or below k, and halving finds it.
+use Prim.Native.Nat.{ℕ, _+_, _-_, _*_, _/_, _≤_, _<_}
+use mathlib.Core.Path.{_≡_, sym, ap, ap₂, _∙_}
+use mathlib.Core.List.{List}
+use native.Mathlib.Omega.{arith}
+use lib.ListN.{length}
+use lib.Count.{ones}
+use Rattle.spec.specs.Set.{rank, select}
+use Rattle.spec.specs.Layout.{size, word}
+use Rattle.spec.specs.Reading.{numberIn, part, bits, countAt}
+use Rattle.spec.proofs.Questions.{rank-low, rank-all, rank-mono}
+use Rattle.words.specs.Part.{Holds, Of}
+use Rattle.dense.specs.Mini.{MiniAt, LastMini}
+use Rattle.dense.specs.declared.mini.DenseMiniBlock.{DenseMiniBlock}
+use Rattle.dense.proofs.PlaceLaws.{rank-ones, select-place}
+use Rattle.dense.proofs.DenseLaws.{rises, stored-word, stored-count}
+
+-- the running count as it is read, two bytes behind the word
+abbrev pub countRead : ℕ → List ℕ → ℕ
+countRead m bs = numberIn (part (10 * m + 8) (10 * m + 8 + 2) bs)
+
+-- which is where it stands
+count-read : (m : ℕ) (bs : List ℕ) → countRead m bs ≡ countAt m bs
+count-read m bs = let e : 10 * m + 8 + 2 ≡ 10 * m + 10 = omega arith in rw e
+
+-- ---- the search: it is one of `left` mini-blocks from `base` on
+
+pub record Among (bs : List ℕ) (k base left : ℕ) : Type 0 where
+  pub some : 1 ≤ left
+  pub within : base + left ≤ 1024
+  pub exact : Of bs (λ ps. k < length ps → (rank (64 * base) ps ≤ k) × (k < rank (64 * (base + left)) ps))
+
+pub among-all : (bs : List ℕ) (k : ℕ) → length bs ≡ 10240 → Among bs k 0 1024
+among-all bs k long =
+    record {
+      some = omega arith;
+      within = omega arith;
+      exact = λ ps h l.
+          let r = rises bs ps long h in
+          (omega (arith, rank-low 0 size ps r 0 (omega arith)), omega (arith, rank-all 0 size ps r 65536 (omega arith)));
+    }
+
+module _ {bs : List ℕ} {k base left : ℕ} (long : length bs ≡ 10240) (a : Among bs k base left) where
+  -- the running count n in the middle is at or below k, or it is above
+  pub among-upper : {n : ℕ} → 1 < left → n ≡ countRead (base + left / 2) bs → n ≤ k → Among bs k (base + left / 2) (left - left / 2)
+  among-upper m e c =
+      let same : base + left / 2 + (left - left / 2) ≡ base + left = omega arith in
+      record {
+        some = omega arith;
+        within = omega (arith, a .within);
+        exact = λ ps h l.
+            (omega (arith, count-read (base + left / 2) bs, stored-count bs ps long h (base + left / 2) (omega (arith, a .within))), rw same (a .exact ps h l .1));
+      }
+
+  pub among-lower : {n : ℕ} → 1 < left → n ≡ countRead (base + left / 2) bs → k < n → Among bs k base (left - left / 2)
+  among-lower m e c =
+      record {
+        some = omega arith;
+        within = omega (arith, a .within);
+        exact = λ ps h l. (
+          a .exact ps h l .0,
+          omega (
+            arith,
+            count-read (base + left / 2) bs,
+            stored-count bs ps long h (base + left / 2) (omega (arith, a .within)),
+            rank-mono (64 * (base + left / 2)) (64 * (base + (left - left / 2))) ps (omega arith),
+          ),
+        );
+      }
+
+  -- one is left
+  pub among-one : left ≤ 1 → LastMini bs k base
+  among-one m =
+      let one : base + left ≡ base + 1 = omega (arith, a .some) in
+      (omega (arith, a .within, a .some), λ ps h l. (a .exact ps h l .0, rw (ap (λ n. rank (64 * n) ps) (sym one)) (a .exact ps h l .1)))
+
+-- ---- what it stores leads to the place
+
+module _ {bs ps : List ℕ} {k m : ℕ} {x : DenseMiniBlock} (long : length bs ≡ 10240) (last : LastMini bs k m) (a : MiniAt bs m x)
+    (h : Holds bs ps) (l : k < length ps) where
+  count : x .rank ≡ rank (64 * m) ps
+  count = a .count ∙ stored-count bs ps long h m (last .0)
+
+  the-word : x .bitvec ≡ word m ps
+  the-word = a .word ∙ stored-word bs ps long h m (last .0)
+
+  -- k is not below the running count, and what is left of k is below the number of bits, so the place is one of them
+  pub before-le : x .rank ≤ k
+  before-le = let q = last .1 ps h l in omega (arith, count)
+
+  pub left-lt : k - x .rank < ones (x .bitvec)
+  left-lt = let q = last .1 ps h l in omega (arith, count, rank-ones ps (rises bs ps long h) m, ap ones the-word)
+
+  pub selected : 64 * m + select (k - x .rank) (bits 64 0 (x .bitvec)) ≡ select k ps
+  selected =
+      let q = last .1 ps h l in
+      ap₂ (λ c w. 64 * m + select (k - c) (bits 64 0 w)) count the-word ∙ select-place ps (rises bs ps long h) m k (q .0) (q .1)

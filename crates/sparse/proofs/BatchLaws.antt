@@ -1,0 +1,111 @@
+-- The turns of the sorted batch in a block: the cursor stays on a match, and passes only places below every question left.
+use Prim.Native.Nat.{ℕ, _+_, _-_, _/_, _%_, _^_, _≤_, _<_}
+use mathlib.Core.Path.{_≡_, refl, sym, ap, _∙_}
+use mathlib.Core.Bool.{true, false}
+use mathlib.Core.List.{List, [], _∷_, map}
+use native.Mathlib.Omega.{arith}
+use lib.ListN.{length, getD, set}
+use lib.Dec.{ltb, eqb}
+use borrow.Author.Tests.{lt-ltb, le-ltb, eq-eqb, ne-eqb, ltb-true, ltb-false, eqb-true, eqb-false}
+use Rattle.spec.specs.Set.{rising, contains, rank}
+use Rattle.spec.specs.Layout.{size}
+use Rattle.spec.proofs.Tests.{by-test}
+use Rattle.spec.proofs.Rising.{rising-facts}
+use Rattle.spec.proofs.Questions.{rank-below}
+use Rattle.words.specs.Part.{NeverFalls, InBlock, Batched}
+use Rattle.sparse.specs.Search.{placesIn, answer, indexOf, Passed, Finds}
+use Rattle.sparse.specs.declared.Search.{Search}
+use Rattle.sparse.specs.declared.Search.the-variants.{Found, Insert}
+use Rattle.sparse.proofs.PlaceLaws.{held}
+use Rattle.sparse.proofs.SearchLaws.{answer-found, answer-insert}
+use Rattle.sparse.proofs.FillLaws.{Filling, filling-none, filling-hit, filling-miss, filling-all}
+
+-- ---- the rows of a block that begins at row base
+
+abbrev rowsFrom : ℕ → List ℕ → List ℕ
+rowsFrom base ps = map (λ p. base + p) ps
+
+contains-from : (base t : ℕ) (ps : List ℕ) → contains (base + t) (rowsFrom base ps) ≡ contains t ps
+unfolding contains
+contains-from base t [] = refl
+contains-from base t (p ∷ ps) =
+    rw (contains-from base t ps) (by-test (eqb p t) (λ q. rw (q, eq-eqb (base + p) (base + t) (omega (arith, eqb-true p t q))))
+    (λ q. rw (q, ne-eqb (base + p) (base + t) (λ e. eqb-false p t q (omega arith)))))
+
+rank-from : (base t : ℕ) (ps : List ℕ) → rank (base + t) (rowsFrom base ps) ≡ rank t ps
+unfolding rank
+rank-from base t [] = refl
+rank-from base t (p ∷ ps) =
+    rw (rank-from base t ps) (by-test (ltb p t) (λ q. rw (q, lt-ltb (base + p) (base + t) (omega (arith, ltb-true p t q))))
+    (λ q. rw (q, le-ltb (base + p) (base + t) (omega (arith, ltb-false p t q)))))
+
+-- ---- the batch
+
+-- after i questions, with the cursor at a place
+pub record Asking (bs qs : List ℕ) (base first : ℕ) (rows₀ ranks₀ rows ranks : List ℕ) (n cursor i : ℕ) : Type 0 where
+  pub filled : Filling (rising 0 size (placesIn bs) ≡ true) (rowsFrom base (placesIn bs)) qs first rows₀ ranks₀ rows ranks n i
+  pub inside : cursor ≤ length bs / 2
+  pub passed : rising 0 size (placesIn bs) ≡ true → (j : ℕ) → i ≤ j → j < length qs → Passed (placesIn bs) (getD qs j 0 - base) cursor
+
+pub asking-none : (bs qs : List ℕ) (base first : ℕ) (rows ranks : List ℕ) → Asking bs qs base first rows ranks rows ranks 0 0 0
+asking-none bs qs base first rows ranks =
+    record { filled = filling-none _ _ qs first rows ranks; inside = omega arith; passed = λ rises j l m k h. absurd (omega arith) }
+
+module _ {bs qs rows₀ ranks₀ rows ranks : List ℕ} {base first n cursor i : ℕ} (a : Asking bs qs base first rows₀ ranks₀ rows ranks n cursor i)
+    (order : NeverFalls qs) (block : InBlock base qs) (h : i < length qs) {r : Search} (f : Finds bs (getD qs i 0 - base) cursor r) where
+  is : base + (getD qs i 0 - base) ≡ getD qs i 0
+  is = omega (arith, block i h)
+
+  says : rising 0 size (placesIn bs) ≡ true → r ≡ answer (getD qs i 0 - base) (placesIn bs)
+  says rises = f .exact rises (a .passed rises i (omega arith) h)
+
+  -- the question as a row says what its place says
+  row-contains : contains (getD qs i 0) (rowsFrom base (placesIn bs)) ≡ contains (getD qs i 0 - base) (placesIn bs)
+  row-contains = ap (λ d. contains d (rowsFrom base (placesIn bs))) (sym is) ∙ contains-from base (getD qs i 0 - base) (placesIn bs)
+
+  row-rank : rank (getD qs i 0) (rowsFrom base (placesIn bs)) ≡ rank (getD qs i 0 - base) (placesIn bs)
+  row-rank = ap (λ d. rank d (rowsFrom base (placesIn bs))) (sym is) ∙ rank-from base (getD qs i 0 - base) (placesIn bs)
+
+  -- the cursor goes to the rank of the question, so it passes no place that a later one, which is not below it, could be at
+  passes : (at : ℕ) → (rising 0 size (placesIn bs) ≡ true → at ≡ rank (getD qs i 0 - base) (placesIn bs))
+      → rising 0 size (placesIn bs) ≡ true → (j : ℕ) → i + 1 ≤ j → j < length qs → Passed (placesIn bs) (getD qs j 0 - base) at
+  passes at ranked rises j l m k b =
+      omega (
+        arith,
+        rank-below 0 size (placesIn bs) (rising-facts 0 size (placesIn bs) rises) (getD qs i 0 - base) k (omega (arith, ranked rises)),
+        order i j (omega arith) m,
+      )
+
+  pub asking-hit : (at x : ℕ) → r ≡ Found at → x ≡ (first + at) % 2 ^ 32
+      → Asking bs qs base first rows₀ ranks₀ (set rows n (getD qs i 0)) (set ranks n x) (n + 1) at (i + 1)
+  asking-hit at x e q = record {
+    filled = filling-hit (a .filled) x h (λ rises. (row-contains ∙ found rises .0, q ∙ ap (λ k. (first + k) % 2 ^ 32) (found rises .1 ∙ sym row-rank)));
+    inside = omega (arith, f .inside, ap indexOf e);
+    passed = passes at (λ rises. found rises .1);
+  }
+    where
+      found : rising 0 size (placesIn bs) ≡ true → (contains (getD qs i 0 - base) (placesIn bs) ≡ true) × (at ≡ rank (getD qs i 0 - base) (placesIn bs))
+      found rises = answer-found (placesIn bs) (getD qs i 0 - base) at (sym e ∙ says rises)
+
+  pub asking-miss : (at : ℕ) → r ≡ Insert at → Asking bs qs base first rows₀ ranks₀ rows ranks n at (i + 1)
+  asking-miss at e = record {
+    filled = filling-miss (a .filled) h (λ rises. row-contains ∙ absent rises .0);
+    inside = omega (arith, f .inside, ap indexOf e);
+    passed = passes at (λ rises. absent rises .1);
+  }
+    where
+      absent : rising 0 size (placesIn bs) ≡ true → (contains (getD qs i 0 - base) (placesIn bs) ≡ false) × (at ≡ rank (getD qs i 0 - base) (placesIn bs))
+      absent rises = answer-insert (placesIn bs) (getD qs i 0 - base) at (sym e ∙ says rises)
+
+-- no question left
+pub asking-all : {bs qs rows₀ ranks₀ rows ranks : List ℕ} {base first n cursor i : ℕ} → Asking bs qs base first rows₀ ranks₀ rows ranks n cursor i
+    → (length bs ≡ 10240 → ⊥) → length qs ≤ i → length qs ≤ length rows₀ → length qs ≤ length ranks₀
+    → Batched bs qs base first rows₀ ranks₀ rows ranks n
+asking-all {bs} a sparse h room room′ =
+    let f = a .filled in
+    record {
+      fewer = omega (arith, f .fewer, f .asked);
+      rows-stay = f .rows-stay;
+      ranks-stay = f .ranks-stay;
+      exact = λ ps d. let e = held bs ps sparse d in rw e at (filling-all f h room room′ (rw e (d .rises)));
+    }
