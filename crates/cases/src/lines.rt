@@ -32,6 +32,13 @@ pub fn list(name: &[u8], came: &[u32], due: &[u32]) {
     end(same(came, due));
 }
 
+// Prints the line of bytes.
+pub fn bytes(name: &[u8], came: &[u8], due: &[u8]) {
+    begin(name);
+    print_bytes(came);
+    end(check::same(came, due));
+}
+
 // Prints the name.
 fn begin(name: &[u8]) {
     io::write_all(STDOUT_FILENO, name);
@@ -60,6 +67,20 @@ fn print_all(numbers: &[u32]) {
         print(numbers[i] as u64);
         i += 1;
     }
+}
+
+// Prints bytes in hex, each after a space.
+fn print_bytes(bytes: &[u8]) {
+    let mut i = 0;
+    while i < bytes.len() {
+        print_byte(bytes[i]);
+        i += 1;
+    }
+}
+
+fn print_byte(b: u8) {
+    io::write_all(STDOUT_FILENO, b" ");
+    io::print_hex(STDOUT_FILENO, b as u64, 2);
 }
 
 // Whether two lists are the same.

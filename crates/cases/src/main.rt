@@ -1,4 +1,5 @@
 // The worked cases of document 01 that code can be asked for, a line each: what came, and whether it is what the document says.
+mod bytes;
 mod lines;
 mod set;
 
@@ -19,6 +20,10 @@ fn main() {
     faults();
     refusals();
     c_numbers();
+    bytes::row_counts();
+    bytes::entries();
+    bytes::mini_block();
+    bytes::block();
 }
 
 // rank, select and next.
