@@ -65,7 +65,7 @@ fn find_mini(part: &[u8], k: u32) -> u16
     base
 }
 
-// The place with k of the block's places below it; 0 where there is none.
+// The place with k of the block's places below it; where there is none, some place.
 pub fn select(part: &[u8], k: u32) -> u32
     requires { ⌜ length (now part) ≡ 10240 ⌝ }
     ensures inside { λ r. ⌜ r < size ⌝ }
@@ -137,8 +137,9 @@ pub fn write(rows: &[u32], out: &mut [u8]) -> u16
     let mut m: u16 = 0;
     while m < 1023 {
         let g = mini::gather(rows, i, m);
+        let after = before + u64::count_ones(g.word) as u16;
         mini::put(out, m, before, g.word);
-        before = before + u64::count_ones(g.word) as u16;
+        before = after;
         i = g.next;
         m += 1;
     }

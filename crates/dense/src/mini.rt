@@ -10,12 +10,14 @@ ghost use Rattle.spec.specs.Layout.{size};
 ghost use Rattle.spec.specs.Reading.{part};
 ghost use Rattle.dense.specs.Mini.{miniIn, miniBytes, MiniAt, places, Gathers};
 
+// A word, and the number of rows before it.
 pub struct DenseMiniBlock {
     pub bitvec: u64,
     pub rank: u16,
 }
 
 impl DenseMiniBlock {
+    // The mini-block in ten bytes.
     pub fn from_bytes(data: [u8; 10]) -> Self
         ensures { λ r. ⌜ r ≡ miniIn «data» ⌝ }
     {
@@ -24,6 +26,7 @@ impl DenseMiniBlock {
         DenseMiniBlock { bitvec, rank }
     }
 
+    // The ten bytes of a mini-block.
     pub fn to_bytes(self) -> [u8; 10]
         ensures { λ r. ⌜ r ≡ miniBytes self ⌝ }
     {

@@ -13,7 +13,7 @@ use Rattle.spec.proofs.Tests.{by-test}
 use Rattle.spec.proofs.Rising.{rising-facts}
 use Rattle.spec.proofs.Questions.{rank-below}
 use Rattle.words.specs.Part.{NeverFalls, InBlock, Batched}
-use Rattle.sparse.specs.Search.{placesIn, answer, indexOf, Passed, Finds}
+use Rattle.sparse.specs.Search.{placesSaid, answer, indexOf, AllBelow, Finds}
 use Rattle.sparse.specs.declared.Search.{Search}
 use Rattle.sparse.specs.declared.Search.the-variants.{Found, Insert}
 use Rattle.sparse.proofs.PlaceLaws.{held}
@@ -43,9 +43,9 @@ rank-from base t (p ∷ ps) =
 
 -- after i questions, with the cursor at a place
 pub record Asking (bs qs : List ℕ) (base first : ℕ) (rows₀ ranks₀ rows ranks : List ℕ) (n cursor i : ℕ) : Type 0 where
-  pub filled : Filling (rising 0 size (placesIn bs) ≡ true) (rowsFrom base (placesIn bs)) qs first rows₀ ranks₀ rows ranks n i
+  pub filled : Filling (rising 0 size (placesSaid bs) ≡ true) (rowsFrom base (placesSaid bs)) qs first rows₀ ranks₀ rows ranks n i
   pub inside : cursor ≤ length bs / 2
-  pub passed : rising 0 size (placesIn bs) ≡ true → (j : ℕ) → i ≤ j → j < length qs → Passed (placesIn bs) (getD qs j 0 - base) cursor
+  pub passed : rising 0 size (placesSaid bs) ≡ true → (j : ℕ) → i ≤ j → j < length qs → AllBelow (placesSaid bs) (getD qs j 0 - base) cursor
 
 pub asking-none : (bs qs : List ℕ) (base first : ℕ) (rows ranks : List ℕ) → Asking bs qs base first rows ranks rows ranks 0 0 0
 asking-none bs qs base first rows ranks =
@@ -56,23 +56,23 @@ module _ {bs qs rows₀ ranks₀ rows ranks : List ℕ} {base first n cursor i :
   is : base + (getD qs i 0 - base) ≡ getD qs i 0
   is = omega (arith, block i h)
 
-  says : rising 0 size (placesIn bs) ≡ true → r ≡ answer (getD qs i 0 - base) (placesIn bs)
+  says : rising 0 size (placesSaid bs) ≡ true → r ≡ answer (getD qs i 0 - base) (placesSaid bs)
   says rises = f .exact rises (a .passed rises i (omega arith) h)
 
   -- the question as a row says what its place says
-  row-contains : contains (getD qs i 0) (rowsFrom base (placesIn bs)) ≡ contains (getD qs i 0 - base) (placesIn bs)
-  row-contains = ap (λ d. contains d (rowsFrom base (placesIn bs))) (sym is) ∙ contains-from base (getD qs i 0 - base) (placesIn bs)
+  row-contains : contains (getD qs i 0) (rowsFrom base (placesSaid bs)) ≡ contains (getD qs i 0 - base) (placesSaid bs)
+  row-contains = ap (λ d. contains d (rowsFrom base (placesSaid bs))) (sym is) ∙ contains-from base (getD qs i 0 - base) (placesSaid bs)
 
-  row-rank : rank (getD qs i 0) (rowsFrom base (placesIn bs)) ≡ rank (getD qs i 0 - base) (placesIn bs)
-  row-rank = ap (λ d. rank d (rowsFrom base (placesIn bs))) (sym is) ∙ rank-from base (getD qs i 0 - base) (placesIn bs)
+  row-rank : rank (getD qs i 0) (rowsFrom base (placesSaid bs)) ≡ rank (getD qs i 0 - base) (placesSaid bs)
+  row-rank = ap (λ d. rank d (rowsFrom base (placesSaid bs))) (sym is) ∙ rank-from base (getD qs i 0 - base) (placesSaid bs)
 
   -- the cursor goes to the rank of the question, so it passes no place that a later one, which is not below it, could be at
-  passes : (at : ℕ) → (rising 0 size (placesIn bs) ≡ true → at ≡ rank (getD qs i 0 - base) (placesIn bs))
-      → rising 0 size (placesIn bs) ≡ true → (j : ℕ) → i + 1 ≤ j → j < length qs → Passed (placesIn bs) (getD qs j 0 - base) at
+  passes : (at : ℕ) → (rising 0 size (placesSaid bs) ≡ true → at ≡ rank (getD qs i 0 - base) (placesSaid bs))
+      → rising 0 size (placesSaid bs) ≡ true → (j : ℕ) → i + 1 ≤ j → j < length qs → AllBelow (placesSaid bs) (getD qs j 0 - base) at
   passes at ranked rises j l m k b =
       omega (
         arith,
-        rank-below 0 size (placesIn bs) (rising-facts 0 size (placesIn bs) rises) (getD qs i 0 - base) k (omega (arith, ranked rises)),
+        rank-below 0 size (placesSaid bs) (rising-facts 0 size (placesSaid bs) rises) (getD qs i 0 - base) k (omega (arith, ranked rises)),
         order i j (omega arith) m,
       )
 
@@ -84,8 +84,8 @@ module _ {bs qs rows₀ ranks₀ rows ranks : List ℕ} {base first n cursor i :
     passed = passes at (λ rises. found rises .1);
   }
     where
-      found : rising 0 size (placesIn bs) ≡ true → (contains (getD qs i 0 - base) (placesIn bs) ≡ true) × (at ≡ rank (getD qs i 0 - base) (placesIn bs))
-      found rises = answer-found (placesIn bs) (getD qs i 0 - base) at (sym e ∙ says rises)
+      found : rising 0 size (placesSaid bs) ≡ true → (contains (getD qs i 0 - base) (placesSaid bs) ≡ true) × (at ≡ rank (getD qs i 0 - base) (placesSaid bs))
+      found rises = answer-found (placesSaid bs) (getD qs i 0 - base) at (sym e ∙ says rises)
 
   pub asking-miss : (at : ℕ) → r ≡ Insert at → Asking bs qs base first rows₀ ranks₀ rows ranks n at (i + 1)
   asking-miss at e = record {
@@ -94,8 +94,8 @@ module _ {bs qs rows₀ ranks₀ rows ranks : List ℕ} {base first n cursor i :
     passed = passes at (λ rises. absent rises .1);
   }
     where
-      absent : rising 0 size (placesIn bs) ≡ true → (contains (getD qs i 0 - base) (placesIn bs) ≡ false) × (at ≡ rank (getD qs i 0 - base) (placesIn bs))
-      absent rises = answer-insert (placesIn bs) (getD qs i 0 - base) at (sym e ∙ says rises)
+      absent : rising 0 size (placesSaid bs) ≡ true → (contains (getD qs i 0 - base) (placesSaid bs) ≡ false) × (at ≡ rank (getD qs i 0 - base) (placesSaid bs))
+      absent rises = answer-insert (placesSaid bs) (getD qs i 0 - base) at (sym e ∙ says rises)
 
 -- no question left
 pub asking-all : {bs qs rows₀ ranks₀ rows ranks : List ℕ} {base first n cursor i : ℕ} → Asking bs qs base first rows₀ ranks₀ rows ranks n cursor i

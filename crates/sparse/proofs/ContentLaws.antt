@@ -7,55 +7,86 @@ use native.Mathlib.Numerals.{add-one}
 use native.Mathlib.Omega.{arith}
 use lib.ListN.{length, getD, drop, length-append, length-map, drop-of-length-le}
 use lib.Seq.{drop-cons, sets, sets-eq, length-sets}
-use lib.Dec.{leb, ltb}
-use borrow.Author.Tests.{lt-leb, eq-eqb}
+use lib.Dec.{ltb}
+use borrow.Author.Tests.{le-leb, lt-leb, lt-ltb, eq-eqb, ltb-true}
 use Rattle.spec.specs.Set.{rising}
 use Rattle.spec.specs.Layout.{size, bytesOf, sparseData}
 use Rattle.spec.specs.Reading.{contentOk}
 use Rattle.spec.specs.Reading as reading
 use Rattle.spec.proofs.Tests.{by-test}
 use Rattle.spec.proofs.Bytes.{length-bytes}
-use Rattle.sparse.specs.Search.{placesIn}
+use Rattle.sparse.specs.Search.{placesSaid}
 use Rattle.sparse.proofs.PlaceLaws.{length-places}
 
 -- ---- checking
 
--- the flag so far, and the places from i on, which have to be at or above low, say what all places say
-pub record Checking (bs : List ℕ) (end : ℕ) (ok : Bool) (low i : ℕ) : Type 0 where
-  pub within : i ≤ length bs / 2
-  pub same : ok && rising low end (drop i (placesIn bs)) ≡ rising 0 end (placesIn bs)
+-- each below the next and the last below the end: that is all
+rising-one : (x end : ℕ) → rising x end (x ∷ []) ≡ ltb x end
+unfolding rising
+rising-one x end = rw (le-leb x x (omega arith)) (by-test (ltb x end) (λ q. rw q) (λ q. rw q))
 
-pub checking-none : (bs : List ℕ) (end : ℕ) → Checking bs end true 0 0
-checking-none bs end = record { within = omega arith; same = refl }
+rising-two : (x y end : ℕ) (zs : List ℕ) → rising x end (x ∷ y ∷ zs) ≡ ltb x y && rising y end (y ∷ zs)
+unfolding rising
+rising-two x y end zs =
+    rw (le-leb x x (omega arith), le-leb y y (omega arith)) (by-test (ltb x y)
+    (λ q. by-test (ltb y end) (λ r. rw (q, r, lt-ltb x end (omega (arith, ltb-true x y q, ltb-true y end r))))
+    (λ r. rw (q, r) (by-test (ltb x end) (λ e. rw e) (λ e. rw e))))
+    (λ q. rw q (by-test (ltb x end) (λ e. rw e) (λ e. rw e))))
 
-regroup : (a b c d : Bool) → ((a && b) && c) && d ≡ a && ((b && c) && d)
-regroup true b c d = refl
-regroup false b c d = refl
+-- the flag so far, and the places from i on, say what all places say
+pub record Checking (bs : List ℕ) (end : ℕ) (ok : Bool) (i : ℕ) : Type 0 where
+  pub within : i < length bs / 2
+  pub same : ok && rising (getD (placesSaid bs) i 0) end (drop i (placesSaid bs)) ≡ rising 0 end (placesSaid bs)
 
-module _ {bs : List ℕ} {end low i : ℕ} {ok : Bool} (s : Checking bs end ok low i) where
-  pub checking-more : (p : ℕ) → i < length bs / 2 → p ≡ getD (placesIn bs) i 0 → Checking bs end ((ok && leb low p) && ltb p end) (p + 1) (i + 1)
-  unfolding rising
-  checking-more p h e =
-      let one : drop i (placesIn bs) ≡ p ∷ drop (i + 1) (placesIn bs) = rw (add-one i, e) (drop-cons (placesIn bs) i 0 (omega (arith, length-places bs))) in
+pub checking-none : (bs : List ℕ) (end : ℕ) → 0 < length bs / 2 → Checking bs end true 0
+unfolding rising
+checking-none bs end h = record { within = h; same = go (placesSaid bs) }
+  where
+    go : (ps : List ℕ) → rising (getD ps 0 0) end ps ≡ rising 0 end ps
+    go [] = refl
+    go (x ∷ xs) = rw (le-leb x x (omega arith), le-leb 0 x (omega arith))
+
+and-assoc : (a b c : Bool) → (a && b) && c ≡ a && (b && c)
+and-assoc true b c = refl
+and-assoc false b c = refl
+
+module _ {bs : List ℕ} {end i : ℕ} {ok : Bool} (s : Checking bs end ok i) where
+  pub checking-more : (p q : ℕ) → i + 1 < length bs / 2 → p ≡ getD (placesSaid bs) i 0 → q ≡ getD (placesSaid bs) (i + 1) 0 → Checking bs end (ok && ltb p q) (i + 1)
+  checking-more p q h e f =
+      let one : drop i (placesSaid bs) ≡ p ∷ drop (i + 1) (placesSaid bs) = rw (add-one i, e) (drop-cons (placesSaid bs) i 0 (omega (arith, length-places bs))) in
+      let two : drop (i + 1) (placesSaid bs) ≡ q ∷ drop (suc (i + 1)) (placesSaid bs) = rw f (drop-cons (placesSaid bs) (i + 1) 0 (omega (arith, length-places bs))) in
       record {
-        within = omega arith;
+        within = h;
         same =
-            rw (add-one p) (regroup ok (leb low p) (ltb p end) (rising (suc p) end (drop (i + 1) (placesIn bs))) ∙ ap (λ l. ok && rising low end l) (sym one) ∙ s .same);
+            rw (← f) (and-assoc ok (ltb p q) (rising q end (drop (i + 1) (placesSaid bs)))
+            ∙ ap (λ b. ok && b) (rw two (sym (rising-two p q end (drop (suc (i + 1)) (placesSaid bs)))) ∙ ap (rising p end) (sym one))
+            ∙ rw (← e) at (s .same));
       }
 
-  pub checking-all : length bs / 2 ≤ i → ok ≡ rising 0 end (placesIn bs)
-  unfolding rising
-  checking-all h =
-      let none′ : drop i (placesIn bs) ≡ [] = drop-of-length-le (placesIn bs) {i = i} (omega (arith, length-places bs)) in
-      by-test ok (λ q. rw q) (λ q. rw q) ∙ ap (λ l. ok && rising low end l) (sym none′) ∙ s .same
+  pub checking-all : (p last : ℕ) → last ≤ i → length bs / 2 ≤ last + 1 → p ≡ getD (placesSaid bs) last 0 → ok && ltb p end ≡ rising 0 end (placesSaid bs)
+  checking-all p last l h f =
+      let same′ : last ≡ i = omega (arith, s .within) in
+      let e : p ≡ getD (placesSaid bs) i 0 = rw same′ at f in
+      let rest : drop (suc i) (placesSaid bs) ≡ [] = drop-of-length-le (placesSaid bs) {i = suc i} (omega (arith, length-places bs)) in
+      let one : drop i (placesSaid bs) ≡ p ∷ [] = rw (← rest, e) (drop-cons (placesSaid bs) i 0 (omega (arith, s .within, length-places bs))) in
+      ap (λ b. ok && b) (sym (rising-one p end) ∙ ap (rising p end) (sym one)) ∙ rw (← e) at (s .same)
+
+-- where there is no place, there is nothing to check
+pub checked-none : (bs : List ℕ) (end : ℕ) → length bs / 2 ≡ 0 → true ≡ rising 0 end (placesSaid bs)
+unfolding rising
+checked-none bs end h = go (placesSaid bs) (length-places bs ∙ h)
+  where
+    go : (ps : List ℕ) → length ps ≡ 0 → true ≡ rising 0 end ps
+    go [] e = refl
+    go (x ∷ xs) e = absurd (omega arith)
 
 -- of at most 5,119 rows, that is all there is to be right
-pub content : (rows end : ℕ) (bs : List ℕ) → length bs ≡ 2 * rows → rows ≤ 5119 → rising 0 end (placesIn bs) ≡ contentOk rows end bs
-unfolding contentOk reading.placesIn placesIn
+pub content : (rows end : ℕ) (bs : List ℕ) → length bs ≡ 2 * rows → rows ≤ 5119 → rising 0 end (placesSaid bs) ≡ contentOk rows end bs
+unfolding contentOk reading.placesIn placesSaid
 content rows end bs l h =
     let half : length bs / 2 ≡ rows = omega arith in
-    let many : length (placesIn bs) ≡ rows = length-places bs ∙ half in
-    rw (lt-leb 5120 rows (omega arith), ← half, eq-eqb (length (placesIn bs)) (length bs / 2) (length-places bs)) (by-test (rising 0 end (placesIn bs)) (λ q. rw q) (λ q. rw q))
+    let many : length (placesSaid bs) ≡ rows = length-places bs ∙ half in
+    rw (lt-leb 5120 rows (omega arith), ← half, eq-eqb (length (placesSaid bs)) (length bs / 2) (length-places bs)) (by-test (rising 0 end (placesSaid bs)) (λ q. rw q) (λ q. rw q))
 
 -- ---- writing
 

@@ -50,7 +50,9 @@ module _ {Given : Type 0} {xs qs rows₀ ranks₀ rows ranks : List ℕ} {first 
     ranks-stay = stay ranks ranks₀ n r (f .ranks-stay);
     rows-long = length-set rows n (getD qs i 0) ∙ f .rows-long;
     ranks-long = length-set ranks n r ∙ f .ranks-long;
-    same = λ g. rw (is g .1, add-one n, suc-add) (rw (next-question h, is g .0, add-suc) at (f .same g));
+    same = λ g.
+        let later : ℕ = length (hits xs (drop (i + 1) qs)) in
+        rw (is g .1, add-one n, suc-add n later) (rw (next-question h, is g .0, add-suc n later) at (f .same g));
   }
 
   pub filling-miss : i < length qs → (Given → contains (getD qs i 0) xs ≡ false) → Filling Given xs qs first rows₀ ranks₀ rows ranks n (i + 1)

@@ -15,7 +15,7 @@ use Rattle.spec.proofs.Rising.{rising-facts}
 use Rattle.spec.proofs.Bytes.{length-part, getD-part}
 use Rattle.spec.proofs.Content.{length-data, data-sparse, data-dense, places-back}
 use Rattle.words.specs.Part.{Holds}
-use Rattle.sparse.specs.Search.{placesIn}
+use Rattle.sparse.specs.Search.{placesSaid}
 
 -- ---- of any bytes
 
@@ -33,13 +33,13 @@ sparse-at (suc n) at (suc i) bs h =
     sparse-at n (at + 2) i bs (omega arith) ∙ rw e
 
 -- as many as there are pairs of bytes
-pub length-places : (bs : List ℕ) → length (placesIn bs) ≡ length bs / 2
-unfolding placesIn
+pub length-places : (bs : List ℕ) → length (placesSaid bs) ≡ length bs / 2
+unfolding placesSaid
 length-places bs = length-sparse (length bs / 2) 0 bs
 
 -- place i is in the two bytes from 2 i on
-pub place-at : (bs : List ℕ) (i : ℕ) → i < length bs / 2 → getD (placesIn bs) i 0 ≡ numberIn (part (2 * i) (2 * i + 2) bs)
-unfolding placesIn
+pub place-at : (bs : List ℕ) (i : ℕ) → i < length bs / 2 → getD (placesSaid bs) i 0 ≡ numberIn (part (2 * i) (2 * i + 2) bs)
+unfolding placesSaid
 place-at bs i h = let e : 0 + 2 * i ≡ 2 * i = omega arith in sparse-at (length bs / 2) 0 i bs h ∙ rw e
 
 -- ---- of the part from place a up to place e
@@ -65,23 +65,23 @@ module _ (bs : List ℕ) (a e : ℕ) (ends : a ≤ e) (inside : e ≤ length bs 
   pub length-cut : length (cut bs a e) / 2 ≡ e - a
   length-cut = omega (arith, length-take (e * 2 - a * 2) (drop (a * 2) bs), length-drop (a * 2) bs)
 
-  place-cut : (i : ℕ) → i < e - a → getD (placesIn (cut bs a e)) i 0 ≡ getD (placesIn bs) (a + i) 0
+  place-cut : (i : ℕ) → i < e - a → getD (placesSaid (cut bs a e)) i 0 ≡ getD (placesSaid bs) (a + i) 0
   place-cut i h =
       let k : a * 2 + 2 * i ≡ 2 * (a + i) = omega arith in
       place-at (cut bs a e) i (omega (arith, length-cut)) ∙ ap numberIn (part-cut bs (e * 2 - a * 2) (a * 2) (2 * i) (omega arith) ∙ rw k)
       ∙ sym (place-at bs (a + i) (omega arith))
 
   -- their places are those of the whole from a up to e
-  pub places-cut : placesIn (cut bs a e) ≡ part a e (placesIn bs)
+  pub places-cut : placesSaid (cut bs a e) ≡ part a e (placesSaid bs)
   places-cut =
-      let n : length (placesIn (cut bs a e)) ≡ e - a = length-places (cut bs a e) ∙ length-cut in
-      ext-getD 0 (placesIn (cut bs a e)) (part a e (placesIn bs)) (n ∙ sym (length-part a e (placesIn bs) ends (omega (arith, length-places bs))))
-      (λ i h. let l : i < e - a = omega arith in place-cut i l ∙ sym (getD-part a e (placesIn bs) i l))
+      let n : length (placesSaid (cut bs a e)) ≡ e - a = length-places (cut bs a e) ∙ length-cut in
+      ext-getD 0 (placesSaid (cut bs a e)) (part a e (placesSaid bs)) (n ∙ sym (length-part a e (placesSaid bs) ends (omega (arith, length-places bs))))
+      (λ i h. let l : i < e - a = omega arith in place-cut i l ∙ sym (getD-part a e (placesSaid bs) i l))
 
 -- ---- of a block's data, which are not 10,240 bytes long and so are sparse
 
-pub held : (bs ps : List ℕ) → (length bs ≡ 10240 → ⊥) → Holds bs ps → placesIn bs ≡ ps
-unfolding placesIn reading.placesIn
+pub held : (bs ps : List ℕ) → (length bs ≡ 10240 → ⊥) → Holds bs ps → placesSaid bs ≡ ps
+unfolding placesSaid reading.placesIn
 held bs ps h d =
     by-test (leb 5120 (length ps))
     (λ q. absurd (h (ap length (d .bytes) ∙ length-data ps ∙ data-dense ps (leb-true 5120 (length ps) q) .1)))

@@ -13,7 +13,7 @@ use Rattle.spec.proofs.Tests.{by-test}
 use Rattle.spec.proofs.Rising.{rising-facts, rising-length}
 use Rattle.spec.proofs.Questions.{rank-le, next-select}
 use Rattle.words.specs.Part.{Holds}
-use Rattle.sparse.specs.Search.{placesIn, answer, indexOf, Finds}
+use Rattle.sparse.specs.Search.{placesSaid, answer, indexOf, Finds}
 use Rattle.sparse.specs.declared.Search.{Search}
 use Rattle.sparse.specs.declared.Search.the-variants.{Found, Insert}
 use Rattle.sparse.proofs.PlaceLaws.{length-places, held}
@@ -42,7 +42,7 @@ module _ {bs : List ℕ} {t : ℕ} {r : Search} (sparse : length bs ≡ 10240 �
   as-many : length ps ≡ length bs / 2
   as-many = sym (ap length (held bs ps sparse d)) ∙ length-places bs
 
-  pub next-there : {i p : ℕ} → i ≡ indexOf r → i < length bs / 2 → p ≡ getD (placesIn bs) i 0 → some p ≡ next t ps
+  pub next-there : {i p : ℕ} → i ≡ indexOf r → i < length bs / 2 → p ≡ getD (placesSaid bs) i 0 → some p ≡ next t ps
   next-there {i} {p} e l q =
       let is : i ≡ rank t ps = e ∙ index-rank in
       let at : p ≡ select (rank t ps) ps = q ∙ ap₂ (λ l k. getD l k 0) (held bs ps sparse d) is in

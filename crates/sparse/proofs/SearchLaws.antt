@@ -14,7 +14,7 @@ use Rattle.spec.proofs.Tests.{by-test}
 use Rattle.spec.proofs.Bytes.{length-part, getD-part}
 use Rattle.spec.proofs.Rising.{Rising, rising-facts, rising-true, rising-lower, rising-steps}
 use Rattle.spec.proofs.Questions.{contains-absent, member-contains, rank-is, rank-le, rank-lt, rank-select, select-rank, rank-below, rank-above}
-use Rattle.sparse.specs.Search.{placesIn, answer, indexOf, shifted, Passed, Finds, Near}
+use Rattle.sparse.specs.Search.{placesSaid, answer, indexOf, shifted, AllBelow, Finds, Near}
 use Rattle.sparse.specs.declared.Search.{Search}
 use Rattle.sparse.specs.declared.Search.the-variants.{Found, Insert}
 use Rattle.sparse.proofs.PlaceLaws.{length-places, cut, length-cut, places-cut}
@@ -41,7 +41,7 @@ module _ (ps : List ℕ) (rises : rising 0 size ps ≡ true) {t a e : ℕ} (near
 
 -- a place below the target, and by how much
 module _ (ps : List ℕ) (rises : rising 0 size ps ≡ true) {t : ℕ} (m : ℕ) (inside : m < length ps) where
-  pub passed : getD ps m 0 < t → Passed ps t (m + 1)
+  pub passed : getD ps m 0 < t → AllBelow ps t (m + 1)
   passed h = near-from ps rises (near-all ps t (length ps) (omega arith)) m inside (m + 1) (length ps) (omega arith) (omega arith) (omega arith) .before
 
   pub near-gap : (gap : ℕ) → 0 < gap → getD ps m 0 + gap ≡ t → Near ps t (m + 1) (m + 1 + gap)
@@ -98,27 +98,27 @@ answer-insert ps t i e =
 
 module _ {bs : List ℕ} {t cursor : ℕ} where
   -- a search that stands where the target does finds it
-  pub finds : {r : Search} → indexOf r ≤ length bs / 2 → (rising 0 size (placesIn bs) ≡ true → Passed (placesIn bs) t cursor → Stands (placesIn bs) t r)
+  pub finds : {r : Search} → indexOf r ≤ length bs / 2 → (rising 0 size (placesSaid bs) ≡ true → AllBelow (placesSaid bs) t cursor → Stands (placesSaid bs) t r)
       → Finds bs t cursor r
-  finds {r} l s = record { inside = l; exact = λ h p. stands-answer (placesIn bs) h t r (s h p) }
+  finds {r} l s = record { inside = l; exact = λ h p. stands-answer (placesSaid bs) h t r (s h p) }
 
   -- where all places before an index are below the target and the one at the index is not, the answer is at the index
-  pub finds-at : (i p : ℕ) (r : Search) → i < length bs / 2 → p ≡ getD (placesIn bs) i 0 → t ≤ p
-      → (rising 0 size (placesIn bs) ≡ true → Passed (placesIn bs) t cursor → Passed (placesIn bs) t i) → r ≡ cond (eqb p t) (Found i) (Insert i)
+  pub finds-at : (i p : ℕ) (r : Search) → i < length bs / 2 → p ≡ getD (placesSaid bs) i 0 → t ≤ p
+      → (rising 0 size (placesSaid bs) ≡ true → AllBelow (placesSaid bs) t cursor → AllBelow (placesSaid bs) t i) → r ≡ cond (eqb p t) (Found i) (Insert i)
       → Finds bs t cursor r
   finds-at i p r l e h before is =
-      let n : length (placesIn bs) ≡ length bs / 2 = length-places bs in
+      let n : length (placesSaid bs) ≡ length bs / 2 = length-places bs in
       by-test (eqb p t)
       (λ q. let s : r ≡ Found i = rw q at is in rw s (finds (omega arith) (λ rises known. (omega arith, sym e ∙ eqb-true p t q))))
       (λ q.
       let s : r ≡ Insert i = rw q at is in
       let above : t < p = by-contra (suc t) p (λ j. eqb-false p t q (omega arith)) in
       rw s (finds (omega arith) (λ rises known.
-      let near : Near (placesIn bs) t i (length bs / 2) = record { before = before rises known; after = λ k a b. absurd (omega arith) } in
-      (omega arith, near-to (placesIn bs) rises near i (omega arith) i (omega arith) (omega arith)))))
+      let near : Near (placesSaid bs) t i (length bs / 2) = record { before = before rises known; after = λ k a b. absurd (omega arith) } in
+      (omega arith, near-to (placesSaid bs) rises near i (omega arith) i (omega arith) (omega arith)))))
 
   -- where all places are below the target, the answer is at the end
-  pub finds-end : (n : ℕ) → n ≡ length bs / 2 → (rising 0 size (placesIn bs) ≡ true → Passed (placesIn bs) t cursor → Passed (placesIn bs) t n)
+  pub finds-end : (n : ℕ) → n ≡ length bs / 2 → (rising 0 size (placesSaid bs) ≡ true → AllBelow (placesSaid bs) t cursor → AllBelow (placesSaid bs) t n)
       → Finds bs t cursor (Insert n)
   finds-end n e before =
       finds (omega arith) (λ rises known. (
@@ -171,9 +171,9 @@ module _ (ps : List ℕ) (t a e : ℕ) (ends : a ≤ e) (inside : e ≤ length p
 
 -- so the search of the bytes of a part, shifted, is one of the whole; the part ends at e, or at the block's end, if nearer
 pub part-finds : (bs : List ℕ) (t a e b : ℕ) (r x : Search) → b ≡ min e (length bs / 2) → a ≤ b
-    → (rising 0 size (placesIn bs) ≡ true → Near (placesIn bs) t a e) → Finds (cut bs a b) t 0 r → x ≡ shifted a r → Finds bs t 0 x
+    → (rising 0 size (placesSaid bs) ≡ true → Near (placesSaid bs) t a e) → Finds (cut bs a b) t 0 r → x ≡ shifted a r → Finds bs t 0 x
 part-finds bs t a e b r x nearer ends near f q =
-    let ps = placesIn bs in
+    let ps = placesSaid bs in
     let inside : b ≤ length bs / 2 = omega arith in
     let same = places-cut bs a b ends inside in
     rw q (finds (fits r (f .inside)) (λ h known.

@@ -11,8 +11,8 @@ use Rattle.sparse.specs.declared.Search.{Search}
 use Rattle.sparse.specs.declared.Search.the-variants.{Found, Insert}
 
 -- the places that any bytes say, two bytes each
-unfoldable pub placesIn : List ℕ → List ℕ
-placesIn part = sparsePlaces (length part / 2) 0 part
+unfoldable pub placesSaid : List ℕ → List ℕ
+placesSaid part = sparsePlaces (length part / 2) 0 part
 
 -- where t is, or where it would go: at the number of places below it
 abbrev pub answer : ℕ → List ℕ → Search
@@ -28,21 +28,21 @@ shifted n (Found i) = Found (n + i)
 shifted n (Insert i) = Insert (n + i)
 
 -- every place before an index is below t
-abbrev pub Passed : List ℕ → ℕ → ℕ → Type 0
-Passed ps t i = (k : ℕ) → k < i → getD ps k 0 < t
+abbrev pub AllBelow : List ℕ → ℕ → ℕ → Type 0
+AllBelow ps t i = (k : ℕ) → k < i → getD ps k 0 < t
 
 -- a search of any bytes from a cursor on: it gives an index of their places, or the end; of places that rise, of which those before
 -- the cursor are below t, it gives the answer
 pub record Finds (part : List ℕ) (t cursor : ℕ) (r : Search) : Type 0 where
   pub inside : indexOf r ≤ length part / 2
-  pub exact : rising 0 size (placesIn part) ≡ true → Passed (placesIn part) t cursor → r ≡ answer t (placesIn part)
+  pub exact : rising 0 size (placesSaid part) ≡ true → AllBelow (placesSaid part) t cursor → r ≡ answer t (placesSaid part)
 
 -- t is or would go among the places from a up to e: all before are below t, and all after above
 pub record Near (ps : List ℕ) (t a e : ℕ) : Type 0 where
-  pub before : Passed ps t a
+  pub before : AllBelow ps t a
   pub after : (k : ℕ) → e ≤ k → k < length ps → t < getD ps k 0
 
 -- what probing gives: of places that rise, t is or would go among those from left up to 2 left + 1
 pub record Probed (part : List ℕ) (t left : ℕ) : Type 0 where
   pub inside : left ≤ length part / 2
-  pub exact : rising 0 size (placesIn part) ≡ true → Near (placesIn part) t left (2 * left + 1)
+  pub exact : rising 0 size (placesSaid part) ≡ true → Near (placesSaid part) t left (2 * left + 1)

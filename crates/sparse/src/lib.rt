@@ -5,13 +5,13 @@ ghost use mathlib.Core.Path.{_≡_};
 ghost use mathlib.Core.Bool.{cond};
 ghost use mathlib.Core.List.{map};
 ghost use Prim.Native.Nat.{_+_, _*_, _/_, _%_, _^_, _≤_, _<_, min};
-ghost use lib.Dec.{eqb};
+ghost use lib.Dec.{leb, eqb};
 ghost use lib.ListN.{length, getD};
-ghost use Rattle.spec.specs.Set.{contains, rank, lookup, select, next};
+ghost use Rattle.spec.specs.Set.{bit, contains, rank, lookup, select, next};
 ghost use Rattle.spec.specs.Layout.{size, sparseData};
 ghost use Rattle.spec.specs.Reading.{contentOk};
 ghost use Rattle.words.specs.Part.{Of, placed, Inside, NeverFalls, InBlock, Batched};
-ghost use Rattle.sparse.specs.Search.{placesIn, indexOf, shifted, Finds, Probed};
+ghost use Rattle.sparse.specs.Search.{placesSaid, indexOf, shifted, Finds, Probed};
 
 // Where a place is found, or where it would go.
 pub enum Search {
@@ -35,7 +35,7 @@ pub fn rank(part: &[u8], place: u16) -> u32
     requires { ⌜ (length (now part) ≡ 10240 → ⊥) ⌝ }
     ensures { λ r. ⌜ Of (now (part .entry)) (λ ps. r ≡ rank place ps) ⌝ }
 {
-    narrow(index(binary_search(part, place)))
+    to_u32(index(binary_search(part, place)))
 }
 
 // The rank of a place, if it is in the block.
@@ -44,12 +44,12 @@ pub fn lookup(part: &[u8], place: u16) -> Place
     ensures { λ r. ⌜ Of (now (part .entry)) (λ ps. placed r ≡ lookup place ps) ⌝ }
 {
     match binary_search(part, place) {
-        Search::Found(i) => Place::At(narrow(i)),
+        Search::Found(i) => Place::At(to_u32(i)),
         Search::Insert(_) => Place::Nothing,
     }
 }
 
-// The place with k of the block's places below it; 0 where there is none.
+// The place with k of the block's places below it; where there is none, some place.
 pub fn select(part: &[u8], k: u32) -> u32
     requires { ⌜ (length (now part) ≡ 10240 → ⊥) ⌝ }
     ensures inside { λ r. ⌜ r < size ⌝ }
@@ -75,22 +75,22 @@ pub fn next(part: &[u8], place: u16) -> Place
     Place::Nothing
 }
 
-// Whether the block's contents are right: places increasing, none at or past the end.
+// Whether the block's contents are right: places increasing, each below the next, and none at or past the end, the last below it.
 pub fn content_ok(part: &[u8], rows: u32, end: u32) -> bool
     requires { ⌜ (length (now part) ≡ 2 * rows) × (rows ≤ 5119) ⌝ }
     ensures { λ r. ⌜ r ≡ contentOk rows end (now (part .entry)) ⌝ }
 {
-    let n = rows as usize;
+    if rows == 0 {
+        return true;
+    }
+    let last = rows as usize - 1;
     let mut ok = true;
-    let mut low: u32 = 0;
     let mut i = 0;
-    while i < n {
-        let p = value_at_idx(part, i) as u32;
-        ok = ok & (low <= p) & (p < end);
-        low = p + 1;
+    while i < last {
+        ok = ok & (value_at_idx(part, i) < value_at_idx(part, i + 1));
         i += 1;
     }
-    ok
+    ok & ((value_at_idx(part, last) as u32) < end)
 }
 
 // The sparse data of the rows of one block, which fill out.
@@ -135,8 +135,8 @@ pub fn batch(
                 n += 1;
                 cursor = at;
             }
-            Search::Insert(at) => {
-                cursor = at;
+            Search::Insert(next) => {
+                cursor = next;
             }
         }
     }
@@ -157,23 +157,23 @@ fn from_cursor(part: &[u8], cursor: usize, target: u16) -> Search
     }
     let p = value_at_idx(part, cursor);
     if target <= p {
-        return stop(cursor, p, target);
+        return answer_at(cursor, p, target);
     }
     let next = cursor + 1;
     if next == n {
         return Search::Insert(n);
     }
-    let p = value_at_idx(part, next);
-    if target <= p {
-        return stop(next, p, target);
+    let q = value_at_idx(part, next);
+    if target <= q {
+        return answer_at(next, q, target);
     }
-    narrowed_search(part, next, (target - p) as usize, target)
+    narrowed_search(part, next, (target - q) as usize, target)
 }
 
 // The search after the cursor, whose place is below the target by gap. Places are distinct and rise, so the one gap places on is at
 // least gap more, and the search is handed no more than these.
 fn narrowed_search(part: &[u8], cursor: usize, gap: usize, target: u16) -> Search
-    requires { ⌜ (cursor < length (now part) / 2) × (0 < gap) × (getD (placesIn (now part)) cursor 0 + gap ≡ target) ⌝ }
+    requires { ⌜ (cursor < length (now part) / 2) × (0 < gap) × (getD (placesSaid (now part)) cursor 0 + gap ≡ target) ⌝ }
     ensures { λ r. ⌜ Finds (now (part .entry)) target 0 r ⌝ }
 {
     let left = cursor + 1;
@@ -222,21 +222,27 @@ fn binary_search(part: &[u8], target: u16) -> Search
     let mut size = part.len() / 2;
     while 1 < size {
         let half = size / 2;
-        let mid = base + half;
+        let p = value_at_idx(part, base + half);
+        base = base + half * not_above(p, target);
         size = size - half;
-        if value_at_idx(part, mid) <= target {
-            base = mid;
-        }
     }
     let p = value_at_idx(part, base);
     if p < target {
         return Search::Insert(base + 1);
     }
-    stop(base, p, target)
+    answer_at(base, p, target)
+}
+
+// 1 where a place is not above the target, and 0 where it is: by a difference and no test, since nothing foretells which way a test
+// in a search goes.
+fn not_above(p: u16, target: u16) -> usize
+    ensures { λ r. ⌜ r ≡ bit (leb p target) ⌝ }
+{
+    ((target as u32 + 65536 - p as u32) / 65536) as usize
 }
 
 // The answer at an index whose place is not below the target, where every place before it is.
-fn stop(i: usize, p: u16, target: u16) -> Search
+fn answer_at(i: usize, p: u16, target: u16) -> Search
     ensures { λ r. ⌜ r ≡ cond (eqb p target) (Search.Found i) (Search.Insert i) ⌝ }
 {
     if p == target {
@@ -270,7 +276,7 @@ fn index(r: Search) -> usize
 // Place i of a block that has more than i.
 fn value_at_idx(part: &[u8], i: usize) -> u16
     requires { ⌜ i < length (now part) / 2 ⌝ }
-    ensures { λ r. ⌜ r ≡ getD (placesIn (now (part .entry))) i 0 ⌝ }
+    ensures { λ r. ⌜ r ≡ getD (placesSaid (now (part .entry))) i 0 ⌝ }
 {
     words::le::u16_at(part, 2 * i)
 }
@@ -285,7 +291,7 @@ fn nearer(a: usize, b: usize) -> usize
 }
 
 // A block has no more places than fit; of other bytes the lowest 32 bits.
-fn narrow(i: usize) -> u32
+fn to_u32(i: usize) -> u32
     ensures { λ r. ⌜ r ≡ i % 2 ^ 32 ⌝ }
 {
     (i % 4294967296) as u32

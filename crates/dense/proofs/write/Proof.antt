@@ -26,20 +26,17 @@ loop-holds c =
 gather-requires : tie.Need-gather-requires Inv-loop μ-loop
 gather-requires c κs = let f = c .before .loop .inv in (omega arith, c .before .before .before .before .pre .1, f .index)
 
-put-requires : tie.Need-put-requires Inv-loop μ-loop
-put-requires c κs = (c .before .before .before .loop .inv .long, omega arith)
+cast-after : tie.Need-cast-after Inv-loop μ-loop
+cast-after c = omega (arith, ones-le 64 (c .before .gather .result .word) (omega arith))
 
-cast-before : tie.Need-cast-before Inv-loop μ-loop
-cast-before c = omega (arith, ones-le 64 (c .before .before .before .before .before .gather .result .word) (omega arith))
-
-add-before : tie.Need-add-before Inv-loop μ-loop
-add-before c =
-    let l = c .before .before .before .before .before .before .before .loop in
-    let s = c .before .before .before .before .before .before .before .before .before .before in
-    let g = c .before .before .before .before .before .gather in
-    let p = c .before .before .before .put in
+add-after : tie.Need-add-after Inv-loop μ-loop
+add-after c =
+    let s = c .before .before .before .before .before .before in
     let ps = places (s .args .rows .now) in
-    omega (arith, count-small (rising-facts 0 size ps (s .pre .1)) (l .inv) (g .ensures) (p .ensures))
+    omega (arith, count-small (rising-facts 0 size ps (s .pre .1)) (c .before .before .before .loop .inv) (c .before .gather .ensures))
+
+put-requires : tie.Need-put-requires Inv-loop μ-loop
+put-requires c κs = (c .before .before .before .before .loop .inv .long, omega arith)
 
 add-m : tie.Need-add-m Inv-loop μ-loop
 add-m c = omega arith
@@ -52,7 +49,7 @@ loop-again c =
     let l = c .before .before .before .before .before .before .before .loop in
     let s = c .before .before .before .before .before .before .before .before .before .before in
     let g = c .before .before .before .before .before .gather in
-    let p = c .before .before .before .put in
+    let p = c .before .before .put in
     let ps = places (s .args .rows .now) in
     one-filled (rising-facts 0 size ps (s .pre .1)) (l .inv) (g .ensures) (p .ensures) (omega arith)
 
@@ -87,5 +84,5 @@ returns c =
 
 pub write-spec : {M : Type 1} → statement M
 write-spec =
-    tie.close (tie.spec Inv-loop μ-loop loop-holds gather-requires put-requires cast-before add-before add-m loop-less loop-again gather-requires-2
+    tie.close (tie.spec Inv-loop μ-loop loop-holds gather-requires cast-after add-after put-requires add-m loop-less loop-again gather-requires-2
     put-requires-2 cast-wrapping-add-u16 wrapping-add-u16-requires same-length returns)

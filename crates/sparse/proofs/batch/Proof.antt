@@ -49,7 +49,7 @@ loop-again-2 : tie.Need-loop-again-2 Inv-loop μ-loop
 loop-again-2 c =
     let turn = c .before .before .before .before .before in
     let asked = turn .before .before .before .before .before .before .pre .1 .1 .0 in
-    asking-miss (turn .before .loop .inv) (asked .0) (asked .1) (turn .loop-test .taken) (c .before .before .before .from-cursor .ensures) _ (c .before .at2 .given .1)
+    asking-miss (turn .before .loop .inv) (asked .0) (asked .1) (turn .loop-test .taken) (c .before .before .before .from-cursor .ensures) _ (c .before .next .given .1)
 
 same-length : tie.Need-same-length Inv-loop μ-loop
 same-length c = c .before .loop .inv .filled .rows-long

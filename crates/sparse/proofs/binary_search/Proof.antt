@@ -1,7 +1,9 @@
 -- `sparse::binary_search` meets its contract. Assumes nothing.
+use Prim.Native.Nat.{_*_, _/_, _≤_}
 use native.Mathlib.Omega.{arith}
+use lib.Dec.{leb}
 use Rattle.sparse.proofs.SearchLaws.{finds-end}
-use Rattle.sparse.proofs.TurnLaws.{Halving, halving-all, halving-up, halving-down, halved-below, halved-at}
+use Rattle.sparse.proofs.TurnLaws.{Halving, halving-all, times-bit, halving-more, halved-below, halved-at}
 use Rattle.sparse.proofs.binary_search.Statement.{statement}
 use Rattle.sparse.proofs.binary_search.Tie as tie
 
@@ -18,22 +20,23 @@ returns c = finds-end 0 (omega arith) (λ rises known. known)
 loop-holds : tie.Need-loop-holds Inv-loop μ-loop
 loop-holds c = halving-all _ _ (omega arith)
 
-loop-again : tie.Need-loop-again Inv-loop μ-loop
-loop-again c =
-    halving-up (c .before .before .before .loop .inv) _ (c .before .before .loop-test .taken) (c .before .value-at-idx .ensures) (c .if2 .taken)
+-- a half, or nothing, is no more than a half
+moved : (c : tie.After-not-above Inv-loop μ-loop) → c .before .before .before .loop .size / 2 * c .not-above .result ≤ c .before .before .before .loop .size / 2
+moved c =
+    let a = c .before .before .before .before .before .before .args in
+    times-bit _ _ (leb (c .before .value-at-idx .result) (a .target)) (c .not-above .ensures)
 
-loop-again-2 : tie.Need-loop-again-2 Inv-loop μ-loop
-loop-again-2 c =
-    halving-down (c .before .before .before .loop .inv) _ (c .before .before .loop-test .taken) (c .before .value-at-idx .ensures) (c .if2 .left)
+loop-again : tie.Need-loop-again Inv-loop μ-loop
+loop-again c = halving-more (c .before .before .before .loop .inv) _ _ (c .before .before .loop-test .taken) (c .before .value-at-idx .ensures) (c .not-above .ensures)
 
 returns-2 : tie.Need-returns-2 Inv-loop μ-loop
-returns-2 c = halved-below (c .before .before .before .loop .inv) _ (c .before .before .loop-test .left) (c .before .value-at-idx2 .ensures) (c .if3 .taken)
+returns-2 c = halved-below (c .before .before .before .loop .inv) _ (c .before .before .loop-test .left) (c .before .value-at-idx2 .ensures) (c .if2 .taken)
 
 returns-3 : tie.Need-returns-3 Inv-loop μ-loop
-returns-3 c = halved-at (c .before .before .before .before .loop .inv) _ _ (c .before .before .value-at-idx2 .ensures) (c .before .if3 .left) (c .stop .ensures)
+returns-3 c = halved-at (c .before .before .before .before .loop .inv) _ _ (c .before .before .value-at-idx2 .ensures) (c .before .if2 .left) (c .answer-at .ensures)
 
 pub binary-search-spec : {M : Type 1} → statement M
 binary-search-spec =
     tie.close
-    (tie.spec Inv-loop μ-loop returns loop-holds (λ c. omega arith) (λ c. omega arith) (λ c κs. omega arith) (λ c. omega arith) loop-again
-    (λ c. omega arith) loop-again-2 (λ c κs. omega arith) (λ c. omega arith) returns-2 (λ c κs. tt) returns-3)
+    (tie.spec Inv-loop μ-loop returns loop-holds (λ c. omega arith) (λ c κs. omega arith) (λ c κs. tt) (λ c. omega (arith, moved c)) (λ c. omega (arith, moved c)) (λ c. omega arith)
+    (λ c. omega arith) loop-again (λ c κs. omega arith) (λ c. omega arith) returns-2 (λ c κs. tt) returns-3)

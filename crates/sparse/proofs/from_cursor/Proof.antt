@@ -2,7 +2,7 @@
 use native.Mathlib.Omega.{arith}
 use mathlib.Core.Path.{refl}
 use borrow.Author.Needs.{needs}
-use Rattle.sparse.specs.Search.{placesIn}
+use Rattle.sparse.specs.Search.{placesSaid}
 use Rattle.sparse.proofs.PlaceLaws.{length-places}
 use Rattle.sparse.proofs.SearchLaws.{passed, finds-at, finds-end, finds-all}
 use Rattle.sparse.proofs.from_cursor.Statement.{statement}
@@ -15,14 +15,14 @@ returns c = finds-end _ refl (λ rises known k l. known k (omega arith))
 -- its place is not below the target
 returns-2 : tie.Need-returns-2
 returns-2 c =
-    finds-at _ _ _ (omega arith) (c .before .before .value-at-idx .ensures) (c .before .if2 .taken) (λ rises known. known) (c .stop .ensures)
+    finds-at _ _ _ (omega arith) (c .before .before .value-at-idx .ensures) (c .before .if2 .taken) (λ rises known. known) (c .answer-at .ensures)
 
 -- it is, and is the last
 returns-3 : tie.Need-returns-3
 returns-3 c =
     let a = c .before .before .before .before .before .args in
     let n = length-places (a .part .now) in
-    finds-end _ refl (λ rises known k l. passed (placesIn (a .part .now)) rises (a .cursor) (omega arith) (omega arith) k (omega arith))
+    finds-end _ refl (λ rises known k l. passed (placesSaid (a .part .now)) rises (a .cursor) (omega arith) (omega arith) k (omega arith))
 
 -- the next is not below the target
 returns-4 : tie.Need-returns-4
@@ -30,7 +30,7 @@ returns-4 c =
     let a = c .before .before .before .before .before .before .before .before .args in
     let n = length-places (a .part .now) in
     finds-at _ _ _ (omega arith) (c .before .before .value-at-idx2 .ensures) (c .before .if4 .taken)
-    (λ rises known. passed (placesIn (a .part .now)) rises (a .cursor) (omega arith) (omega arith)) (c .stop2 .ensures)
+    (λ rises known. passed (placesSaid (a .part .now)) rises (a .cursor) (omega arith) (omega arith)) (c .answer-at2 .ensures)
 
 returns-5 : tie.Need-returns-5
 returns-5 c = finds-all (c .narrowed-search .ensures)

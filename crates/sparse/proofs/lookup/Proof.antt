@@ -13,7 +13,7 @@ returns c ps d =
     let sparse = c .before .before .before .before .before .before .pre in
     let finds = c .before .before .before .before .binary-search .ensures in
     let is = c .before .before .i .given .1 in
-    ap some (rank-says sparse finds ps d (sym (ap indexOf is)) (c .narrow .ensures)) ∙ sym (lookup-member _ ps (sym (found-there sparse finds ps d is)))
+    ap some (rank-says sparse finds ps d (sym (ap indexOf is)) (c .to-u32 .ensures)) ∙ sym (lookup-member _ ps (sym (found-there sparse finds ps d is)))
 
 returns-2 : tie.Need-returns-2
 returns-2 c ps d =

@@ -2,7 +2,7 @@
 use Prim.Native.Nat.{_+_}
 use native.Mathlib.Omega.{arith}
 use borrow.Author.Needs.{needs}
-use Rattle.sparse.specs.Search.{placesIn}
+use Rattle.sparse.specs.Search.{placesSaid}
 use Rattle.sparse.proofs.PlaceLaws.{length-places, length-cut}
 use Rattle.sparse.proofs.SearchLaws.{near-gap, part-finds}
 use Rattle.sparse.proofs.narrowed_search.Statement.{statement}
@@ -19,7 +19,7 @@ returns c =
     let bs = a .args .part .now in
     let m = a .args .cursor in
     part-finds bs (a .args .target) (m + 1) (m + 1 + a .args .gap) _ _ _ (c .before .before .before .nearer .ensures) (omega arith)
-    (λ rises. near-gap (placesIn bs) rises m (omega (arith, length-places bs)) (a .args .gap) (omega arith) (omega arith)) (c .before .exponential-search .ensures)
+    (λ rises. near-gap (placesSaid bs) rises m (omega (arith, length-places bs)) (a .args .gap) (omega arith) (omega arith)) (c .before .exponential-search .ensures)
     (c .shift .ensures)
 
 pub narrowed-search-spec : {M : Type 1} → statement M
