@@ -23,9 +23,9 @@ pub record MiniAt (part : List ℕ) (m : ℕ) (x : DenseMiniBlock) : Type 0 wher
   pub word : x .bitvec ≡ wordAt m part
   pub count : x .rank ≡ countAt m part
 
--- the last mini-block whose running count is at or below k, if the block has more than k places
+-- the last mini-block whose running count is at or below k: with more than k places, the next one's is above
 abbrev pub LastMini : List ℕ → ℕ → ℕ → Type 0
-LastMini part k m = (m < 1024) × Of part (λ ps. k < length ps → (rank (64 * m) ps ≤ k) × (k < rank (64 * (m + 1)) ps))
+LastMini part k m = (m < 1024) × Of part (λ ps. (rank (64 * m) ps ≤ k) × (k < length ps → k < rank (64 * (m + 1)) ps))
 
 -- the places of rows of one block
 abbrev pub places : List ℕ → List ℕ

@@ -65,19 +65,15 @@ fn find_mini(part: &[u8], k: u32) -> u16
     base
 }
 
-// The place with k of the block's places below it; where there is none, some place.
+// The place with k of the block's places below it; 0 where there is none.
 pub fn select(part: &[u8], k: u32) -> u32
     requires { ⌜ length (now part) ≡ 10240 ⌝ }
     ensures inside { λ r. ⌜ r < size ⌝ }
-    ensures exact { λ r. ⌜ Of (now (part .entry)) (λ ps. k < length ps → r ≡ select k ps) ⌝ }
+    ensures exact { λ r. ⌜ Of (now (part .entry)) (λ ps. r ≡ select k ps) ⌝ }
 {
     let at = find_mini(part, k);
     let m = mini::mini_block(part, at);
-    let before = m.rank as u32;
-    if k < before {
-        return 0;
-    }
-    let left = k - before;
+    let left = std::num::wrapping_sub_u32(k, m.rank as u32);
     if u64::count_ones(m.bitvec) <= left {
         return 0;
     }

@@ -49,11 +49,11 @@ pub fn lookup(part: &[u8], place: u16) -> Place
     }
 }
 
-// The place with k of the block's places below it; where there is none, some place.
+// The place with k of the block's places below it; 0 where there is none.
 pub fn select(part: &[u8], k: u32) -> u32
     requires { ⌜ (length (now part) ≡ 10240 → ⊥) ⌝ }
     ensures inside { λ r. ⌜ r < size ⌝ }
-    ensures exact { λ r. ⌜ Of (now (part .entry)) (λ ps. k < length ps → r ≡ select k ps) ⌝ }
+    ensures exact { λ r. ⌜ Of (now (part .entry)) (λ ps. r ≡ select k ps) ⌝ }
 {
     let i = k as usize;
     if i < part.len() / 2 {

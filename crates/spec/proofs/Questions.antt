@@ -27,6 +27,12 @@ member-contains k [] h = absurd (omega arith)
 member-contains zero (x ∷ xs) h = rw (eq-eqb x x refl)
 member-contains (suc k) (x ∷ xs) h = rw (member-contains k xs (omega arith)) (by-test (eqb x (select k xs)) (λ q. rw q) (λ q. rw q))
 
+-- there is no member past the last, where select says 0
+pub select-past : (k : ℕ) (xs : List ℕ) → length xs ≤ k → select k xs ≡ 0
+select-past k [] h = refl
+select-past zero (x ∷ xs) h = absurd (omega arith)
+select-past (suc k) (x ∷ xs) h = select-past k xs (omega arith)
+
 -- if no element is d, d is not in the list
 pub contains-absent : (d : ℕ) (xs : List ℕ) → ((k : ℕ) → k < length xs → select k xs ≡ d → ⊥) → contains d xs ≡ false
 contains-absent d xs h =
