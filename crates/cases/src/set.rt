@@ -1,6 +1,5 @@
 // The questions of a set in their plainest form, one row of a lent list after the other. Each is proved to be its definition of
 // the crate spec, so what it answers on a worked case is what the definition says there.
-use spec::Done;
 use spec::Found;
 use spec::Number;
 use spec::Refusal;
@@ -8,7 +7,7 @@ ghost use mathlib.Core.Path.{_≡_};
 ghost use Prim.Native.Nat.{_^_, _<_, _≤_};
 ghost use lib.ListN.{length};
 ghost use Rattle.spec.specs.Set.{contains, rank};
-ghost use Rattle.spec.specs.Answers.{value, numbered, found, done, unless, saySelect, sayLookup, sayNext, allHits, rowFault};
+ghost use Rattle.spec.specs.Answers.{value, numbered, found, saySelect, sayLookup, sayNext, allHits};
 
 // Whether d is in the set.
 pub fn contains(rows: &[u32], d: u32) -> bool
@@ -97,24 +96,4 @@ pub fn lookup_batch(rows: &[u32], questions: &[u32], hits: &mut [u32], ranks: &m
         }
     }
     n
-}
-
-// Whether the rows can be written: the first one that is not larger than the one before, or at or past the row count, refuses.
-pub fn row_fault(row_count: u32, rows: &[u32]) -> Done
-    ensures { λ r. ⌜ done r ≡ unless (rowFault «row_count» 0 (now (rows .entry))) (value tt) ⌝ }
-{
-    let mut low: u32 = 0;
-    let mut i = 0;
-    while i < rows.len() {
-        let row = rows[i];
-        if row < low {
-            return Done::Refused(Refusal::Order);
-        }
-        if row_count <= row {
-            return Done::Refused(Refusal::Range);
-        }
-        low = row + 1;
-        i += 1;
-    }
-    Done::Yes
 }

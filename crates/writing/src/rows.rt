@@ -62,7 +62,7 @@ fn first_fault(row_count: u32, rows: &[u32]) -> Done
 }
 
 // The first row that is not below end, where that at an index is: gallops, then halves, since the rows rise.
-pub fn run_end(rows: &[u32], from: usize, end: u64) -> usize
+pub(crate) fn run_end(rows: &[u32], from: usize, end: u64) -> usize
     requires { ⌜ (from < length (now rows)) × (getD (now rows) from 0 < end) ⌝ }
     requires { ⌜ ascends 0 (now rows) ≡ true ⌝ }
     ensures { λ r. ⌜ Below (now (rows .entry)) end r ⌝ }
@@ -100,12 +100,12 @@ fn halve(rows: &[u32], from: usize, few: usize, end: u64) -> usize
 }
 
 // What the blocks of rows take: their data bytes, and how many there are.
-pub struct Shape {
+pub(crate) struct Shape {
     pub data: usize,
     pub entries: usize,
 }
 
-pub fn measure(rows: &[u32]) -> Shape
+pub(crate) fn measure(rows: &[u32]) -> Shape
     requires { ⌜ ascends 0 (now rows) ≡ true ⌝ }
     ensures { λ r. ⌜ Shaped (now (rows .entry)) (r .«data») (r .entries) ⌝ }
 {
@@ -125,14 +125,14 @@ pub fn measure(rows: &[u32]) -> Shape
 }
 
 // Where the block of a row ends.
-pub fn block_end(row: u32) -> u64
+pub(crate) fn block_end(row: u32) -> u64
     ensures { λ r. ⌜ r ≡ row / size * size + size ⌝ }
 {
     (row / 65536) as u64 * 65536 + 65536
 }
 
 // The data bytes of a block of n rows.
-pub fn data_size(n: usize) -> usize
+pub(crate) fn data_size(n: usize) -> usize
     ensures { λ r. ⌜ r ≡ dataSize n ⌝ }
 {
     if n < 5120 {
