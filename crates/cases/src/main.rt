@@ -67,7 +67,7 @@ fn faults() {
 
 // The C number of the refusal, or 0 where the rows are fine.
 fn fault(row_count: u32, rows: &[u32]) -> u64 {
-    match writing::rows::fault(row_count, rows) {
+    match rows::fault(row_count, rows) {
         Done::Yes => 0,
         Done::Refused(e) => codes::of_number(Number::Refused(e)),
     }

@@ -7,18 +7,13 @@ use native.Mathlib.Omega.{arith}
 use lib.ListN.{length}
 use Rattle.spec.specs.Set.{rising}
 use Rattle.spec.specs.Layout.{Block, blocks, rowsOf, dense, written, fileOf}
-use Rattle.spec.specs.Reading.{limit, AreBytes, Head, dataSize, dataSizes, holds, verdict}
+use Rattle.spec.specs.Reading.{Permitted, AreBytes, Head, dataSize, dataSizes, holds, verdict}
 use Rattle.spec.proofs.Tests.{by-test}
 use Rattle.spec.proofs.Rising.{rising-facts, rising-true}
 use Rattle.spec.proofs.RowCount.{groups-length, headOf}
 use Rattle.spec.proofs.Blocks.{rows-blocks, blocks-rows, well-blocks, well-rows, well-length}
 use Rattle.spec.proofs.Accepted.{entryFor, length-written, accepted}
 use Rattle.spec.proofs.Written.{was-written}
-
--- strictly increasing rows below a permitted row count
-pub record Permitted (count : ℕ) (rows : List ℕ) : Type 0 where
-  pub limited : count ≤ limit
-  pub rises : rising 0 count rows ≡ true
 
 -- what is written is accepted, with its row count and its blocks, and the rows of these are the set
 pub written-accepted : (count : ℕ) (rows : List ℕ) → Permitted count rows

@@ -1,3 +1,2 @@
-pub mod RowLaws
-pub mod RunLaws
-pub mod MeasureLaws
+pub mod PutLaws
+pub mod FileLaws
