@@ -1,4 +1,4 @@
--- `sparse::answer_at` meets its contract. Assumes nothing.
+-- `search::answer_at` meets its contract. Assumes nothing.
 use borrow.Author.Tests.{eq-eqb, ne-eqb}
 use Rattle.search.proofs.answer_at.Statement.{statement}
 use Rattle.search.proofs.answer_at.Tie as tie

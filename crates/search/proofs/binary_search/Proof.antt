@@ -1,4 +1,4 @@
--- `sparse::binary_search` meets its contract. Assumes nothing.
+-- `search::binary_search` meets its contract. Assumes nothing.
 use Prim.Native.Nat.{_*_, _/_, _≤_}
 use native.Mathlib.Omega.{arith}
 use lib.Dec.{leb}

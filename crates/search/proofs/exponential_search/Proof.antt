@@ -1,4 +1,4 @@
--- `sparse::exponential_search` meets its contract. Assumes nothing.
+-- `search::exponential_search` meets its contract. Assumes nothing.
 use Prim.Native.Nat.{_+_, _*_}
 use native.Mathlib.Omega.{arith}
 use borrow.Author.Needs.{needs}

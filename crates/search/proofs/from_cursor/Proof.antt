@@ -1,4 +1,4 @@
--- `sparse::from_cursor` meets its contract. Assumes nothing.
+-- `search::from_cursor` meets its contract. Assumes nothing.
 use native.Mathlib.Omega.{arith}
 use mathlib.Core.Path.{refl}
 use borrow.Author.Needs.{needs}

@@ -1,4 +1,4 @@
--- `sparse::narrowed_search` meets its contract. Assumes nothing.
+-- `search::narrowed_search` meets its contract. Assumes nothing.
 use Prim.Native.Nat.{_+_}
 use native.Mathlib.Omega.{arith}
 use borrow.Author.Needs.{needs}

@@ -1,4 +1,4 @@
--- `sparse::not_above` meets its contract. Assumes nothing.
+-- `search::not_above` meets its contract. Assumes nothing.
 use native.Mathlib.Omega.{arith}
 use borrow.Author.Needs.{needs}
 use borrow.Author.Tests.{leb-true, leb-false}

@@ -1,4 +1,4 @@
--- `sparse::probe` meets its contract. Assumes nothing.
+-- `search::probe` meets its contract. Assumes nothing.
 use Prim.Native.Nat.{_-_}
 use native.Mathlib.Omega.{arith}
 use Rattle.search.proofs.TurnLaws.{Probing, probing-none, probing-more, probed, probed-all}

@@ -1,4 +1,4 @@
--- `sparse::shift` meets its contract. Assumes nothing.
+-- `search::shift` meets its contract. Assumes nothing.
 use mathlib.Core.Path.{sym, ap}
 use native.Mathlib.Omega.{arith}
 use borrow.Author.Needs.{needs}

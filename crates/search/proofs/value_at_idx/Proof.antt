@@ -1,4 +1,4 @@
--- `sparse::value_at_idx` meets its contract. Assumes nothing.
+-- `search::value_at_idx` meets its contract. Assumes nothing.
 use mathlib.Core.Path.{sym, _∙_}
 use native.Mathlib.Omega.{arith}
 use Rattle.search.proofs.PlaceLaws.{place-at}

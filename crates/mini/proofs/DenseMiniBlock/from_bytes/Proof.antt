@@ -16,7 +16,7 @@ u16-at-requires : tie.Need-u16-at-requires
 u16-at-requires c κs = search needs
 
 returns : tie.Need-returns
-returns c = cc
+returns c = λ i. record { bitvec = c .before .before .read .ensures i; rank = c .u16-at .ensures i }
 
 pub from-bytes-spec : {M : Type 1} → statement M
 from-bytes-spec = tie.close (tie.spec slice-aggregate-read read-requires slice-aggregate-u16-at u16-at-requires returns)
