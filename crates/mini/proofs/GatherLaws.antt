@@ -15,7 +15,7 @@ use Rattle.spec.specs.Set.{contains, rank, select}
 use Rattle.spec.specs.Layout.{size, wordFrom, word}
 use Rattle.spec.specs.Reading.{bits}
 use Rattle.spec.proofs.Tests.{by-test}
-use Rattle.spec.proofs.Rising.{Rising, rising-lower, rising-apart}
+use Rattle.spec.proofs.Rising.{Rising, rising-apart, rising-drop}
 use Rattle.spec.proofs.Questions.{rank-le, rank-mono, rank-low, rank-select, rank-after, rank-above}
 use Rattle.spec.proofs.Words.{word-here, word-elsewhere}
 use Rattle.mini.specs.Mini.{Gathers}
@@ -56,12 +56,6 @@ word-past m low end (suc i) (p ∷ ps) r h =
     by-test (ltb p (64 * (m + 1))) (λ e. word-past m (suc p) end i ps (r .2) (omega (arith, rw e at h)))
     (λ e. word-past m (suc p) end i ps (r .2)
     (omega (arith, rank-low (suc p) end ps (r .2) (64 * (m + 1)) (omega (arith, ltb-false p (64 * (m + 1)) e)))))
-
--- what is left of an increasing list
-rising-drop : (i low end : ℕ) (ps : List ℕ) → Rising low end ps → Rising low end (drop i ps)
-rising-drop zero low end ps r = r
-rising-drop (suc i) low end [] r = tt
-rising-drop (suc i) low end (p ∷ ps) r = rising-lower low (suc p) end (drop i ps) (omega arith) (rising-drop i (suc p) end ps (r .2))
 
 -- ---- gathering: w has the places of mini-block m before index i, and so no bit at or above the place at i
 

@@ -1,8 +1,8 @@
 -- Searches of places: where the target is or would go, halved, probed and narrowed, and the answer that is left.
-use Prim.Native.Nat.{ℕ, zero, suc, _+_, _-_, _/_, _≤_, _<_, min}
+use Prim.Native.Nat.{ℕ, suc, _+_, _-_, _/_, _≤_, _<_, min}
 use mathlib.Core.Path.{_≡_, sym, ap, subst, _∙_}
 use mathlib.Core.Bool.{true, false, cond, true≢false}
-use mathlib.Core.List.{List, [], _∷_}
+use mathlib.Core.List.{List}
 use native.Mathlib.Omega.{arith, by-contra}
 use lib.ListN.{length, getD, take, drop}
 use lib.Dec.{ltb, eqb}
@@ -12,7 +12,7 @@ use Rattle.spec.specs.Layout.{size}
 use Rattle.spec.specs.Reading.{part}
 use Rattle.spec.proofs.Tests.{by-test}
 use Rattle.spec.proofs.Bytes.{length-part, getD-part}
-use Rattle.spec.proofs.Rising.{Rising, rising-facts, rising-true, rising-lower, rising-steps}
+use Rattle.spec.proofs.Rising.{Rising, rising-facts, rising-true, rising-steps, rising-take, rising-drop}
 use Rattle.spec.proofs.Questions.{contains-absent, member-contains, rank-is, rank-le, rank-lt, rank-select, select-rank, rank-below, rank-above}
 use Rattle.search.specs.Search.{placesSaid, answer, indexOf, shifted, AllBelow, Finds, Near}
 use Rattle.search.specs.declared.Search.{Search}
@@ -131,16 +131,6 @@ module _ {bs : List ℕ} {t cursor : ℕ} where
   finds-all f = record { inside = f .inside; exact = λ h p. f .exact h (λ k l. absurd (omega arith)) }
 
 -- ---- a part that has the target's place
-
-rising-take : (n low end : ℕ) (xs : List ℕ) → Rising low end xs → Rising low end (take n xs)
-rising-take zero low end xs r = tt
-rising-take (suc n) low end [] r = tt
-rising-take (suc n) low end (x ∷ xs) r = (r .0, r .1, rising-take n (suc x) end xs (r .2))
-
-rising-drop : (n low end : ℕ) (xs : List ℕ) → Rising low end xs → Rising low end (drop n xs)
-rising-drop zero low end xs r = r
-rising-drop (suc n) low end [] r = tt
-rising-drop (suc n) low end (x ∷ xs) r = rising-lower low (suc x) end (drop n xs) (omega (arith, r .0)) (rising-drop n (suc x) end xs (r .2))
 
 rising-part : (a e : ℕ) (ps : List ℕ) → rising 0 size ps ≡ true → rising 0 size (part a e ps) ≡ true
 unfolding part
