@@ -8,18 +8,13 @@ use lib.ListN.{length, getD, take, drop, length-map, take-append-drop}
 use lib.Seq.{drop-drop}
 use Rattle.spec.specs.Layout.{size, blocks}
 use Rattle.spec.specs.Reading.{part}
-use Rattle.spec.proofs.Rising.{Rising, rising-true, rising-lower, rising-steps}
+use Rattle.spec.proofs.Rising.{Rising, rising-true, rising-lower, rising-steps, rising-take}
 use Rattle.spec.proofs.Bytes.{length-part, getD-part}
 use Rattle.spec.proofs.Blocks.{blocks-run}
 use Rattle.rows.specs.Runs.{ascends, Below, places, Run}
 use Rattle.rows.proofs.RowLaws.{ascends-rising}
 
--- ---- parts of a rising list
-
-rising-take : (n low end : ℕ) (xs : List ℕ) → Rising low end xs → Rising low end (take n xs)
-rising-take zero low end xs r = tt
-rising-take (suc n) low end [] r = tt
-rising-take (suc n) low end (x ∷ xs) r = (r .0, r .1, rising-take n (suc x) end xs (r .2))
+-- ---- the rest of a rising list
 
 rising-drop : (n low low′ end : ℕ) (xs : List ℕ) → Rising low end xs → ((j : ℕ) → n ≤ j → j < length xs → low′ ≤ getD xs j 0) → Rising low′ end (drop n xs)
 rising-drop zero low low′ end [] r h = tt

@@ -2,3 +2,4 @@ pub mod CountLaws
 pub mod GroupLaws
 pub mod LeLaws
 pub mod StoreLaws
+pub mod FillLaws
