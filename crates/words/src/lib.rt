@@ -1,4 +1,6 @@
-// Numbers in bytes: little-endian ones, the row count's groups of seven bits, and entries. What a block's questions answer.
+// Numbers in bytes: little-endian ones, the row count's groups of seven bits, and entries. How long a block's data are, and what its
+// questions answer.
+pub mod block;
 pub mod count;
 pub mod entry;
 pub mod le;
