@@ -3,7 +3,7 @@ use spec::Entry;
 ghost use mathlib.Core.Path.{_≡_};
 ghost use Prim.Native.Nat.{_+_, _*_, _≤_};
 ghost use lib.ListN.{length};
-ghost use Rattle.spec.specs.Reading.{limit, rowsAt, part, entryIn, entriesAt};
+ghost use Rattle.spec.specs.Reading.{rowsAt, part, entryIn, entriesAt};
 ghost use Rattle.judging.specs.Phases.{entryOk, totals};
 
 // What the entries call for: so many populated rows, and so many data bytes.
@@ -15,7 +15,6 @@ pub(crate) enum Totals {
 // Their sums, if they are right: entries from an index on, which end inside the file.
 pub(crate) fn add_up(bytes: &[u8], from: usize, entries: usize, row_count: u32) -> Totals
     requires { ⌜ from + 4 * entries ≤ length (now bytes) ⌝ }
-    requires { ⌜ «row_count» ≤ limit ⌝ }
     ensures { λ r. ⌜ r ≡ totals «row_count» (entriesAt entries from (now (bytes .entry))) ⌝ }
 {
     let mut low: u32 = 0;
@@ -39,14 +38,12 @@ pub(crate) fn add_up(bytes: &[u8], from: usize, entries: usize, row_count: u32) 
 
 // Whether an entry may stand behind those of blocks below low.
 fn entry_ok(x: Entry, low: u32, row_count: u32) -> bool
-    requires { ⌜ «row_count» ≤ limit ⌝ }
     ensures { λ r. ⌜ r ≡ entryOk «row_count» low x ⌝ }
 {
-    let number = x.number as u32;
-    if number < low {
+    if (x.number as u32) < low {
         return false;
     }
-    if (row_count + 65535) / 65536 <= number {
+    if words::block::block_count(row_count) <= x.number as usize {
         return false;
     }
     x.rows <= rows_at(row_count, x.number)

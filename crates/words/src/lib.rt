@@ -1,5 +1,5 @@
-// Numbers in bytes: little-endian ones, the row count's groups of seven bits, and entries. How long a block's data are, and what its
-// questions answer.
+// Numbers in bytes: little-endian ones, the row count's groups of seven bits, and entries. Numbers of blocks, and what a block's questions
+// answer.
 pub mod block;
 pub mod count;
 pub mod entry;

@@ -34,7 +34,7 @@ fitting : (c : tie.Else1)
 fitting c = record { head = head (c .before .before); many = counted (c .before); room = c .if1 .left }
 
 add-up-requires : tie.Need-add-up-requires
-add-up-requires c κs = (omega (arith, head (c .before .before) .upto), head (c .before .before) .limited)
+add-up-requires c κs = omega (arith, head (c .before .before) .upto)
 
 returns-4 : tie.Need-returns-4
 returns-4 c = let a = c .before .before in says-wrong (fitting (a .before)) (sym (c .enum-told .given .1) ∙ a .add-up .ensures)

@@ -18,7 +18,7 @@ abbrev μ-loop : tie.MeasureT-loop
 μ-loop bytes from entries row-count low₀ rows₀ size₀ at₀ left₀ low rows size at left = left
 
 loop-holds : tie.Need-loop-holds Inv-loop μ-loop
-loop-holds c = record { walk = record { within = c .before .pre .0; same = refl }; small = small-none _ }
+loop-holds c = record { walk = record { within = c .before .pre; same = refl }; small = small-none _ }
 
 entry-at-requires : tie.Need-entry-at-requires Inv-loop μ-loop
 entry-at-requires c κs = omega (arith, c .before .loop .inv .walk .within)
@@ -38,7 +38,7 @@ add-rows c =
     let k = c .before .before in
     let x = k .before .before .entry-at in
     let s = adding-small (k .before .before .before .before .loop .inv) (x .result) (omega arith) (x .ensures) (passed k) in
-    omega (arith, s .few, k .before .before .before .before .before .before .pre .1)
+    omega (arith, s .few)
 
 add-size : tie.Need-add-size Inv-loop μ-loop
 add-size c =
