@@ -40,7 +40,8 @@ fn fill(bytes: &[u8], row_count: u32, directory: &mut [u32])
     let mut size: u32 = 0;
     while 0 < left {
         let x = judging::entries::entry_at(bytes, at);
-        let next = x.number as usize + 1;
+        let number = x.number as usize;
+        let next = number + 1;
         put_pairs(directory, block, next, rows, size);
         block = next;
         rows = rows + x.rows;
@@ -48,13 +49,8 @@ fn fill(bytes: &[u8], row_count: u32, directory: &mut [u32])
         at += 4;
         left -= 1;
     }
-    put_pairs(
-        directory,
-        block,
-        words::block::block_count(row_count) + 1,
-        rows,
-        size,
-    );
+    let blocks = words::block::block_count(row_count);
+    put_pairs(directory, block, blocks + 1, rows, size);
 }
 
 // The same pair for the blocks from one up to, not including, another.

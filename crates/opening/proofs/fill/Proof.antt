@@ -76,20 +76,21 @@ loop-again c =
 
 put-pairs-requires-2 : tie.Need-put-pairs-requires-2 Inv-loop μ-loop
 put-pairs-requires-2 c κs =
-    let l = c .before .before .before in
-    (omega (arith, l .loop .inv .small .blocks, c .block-count .ensures), omega (arith, l .loop .inv .long, c .block-count .ensures, l .before .before .before .before .pre .1))
+    let b = c .before in
+    let l = b .before .before in
+    (omega (arith, l .loop .inv .small .blocks, b .block-count .ensures), omega (arith, l .loop .inv .long, b .block-count .ensures, l .before .before .before .before .pre .1))
 
 same-length : tie.Need-same-length Inv-loop μ-loop
 same-length c = ap length (c .before .before .put-pairs2 .ensures) ∙ simp length-sets (c .before .before .before .before .before .before .loop .inv .long)
 
 returns : tie.Need-returns Inv-loop μ-loop
 returns c =
-    let b = c .before .before .before in
-    c .before .before .put-pairs2 .ensures ∙ rw (b .block-count .ensures) (fill-end (b .before .before .before .loop .inv) (omega arith))
+    let b = c .before .before .before .before in
+    c .before .before .put-pairs2 .ensures ∙ rw (b .block-count .ensures) (fill-end (b .before .before .loop .inv) (omega arith))
 
 pub fill-spec : {M : Type 1} → statement M
 fill-spec =
     tie.close
     (tie.spec Inv-loop μ-loop sub-end u16-at-requires (λ c. search needs) (λ c. search needs) sub-at loop-holds entry-at-requires (λ c. search needs) (λ c. omega arith)
     put-pairs-requires add-rows (λ c. search needs) (λ c κs. search needs) (λ c. omega (arith, few c)) (λ c. omega (arith, few c)) (λ c. omega arith) (λ c. omega arith) (λ c. omega arith) loop-again
-    (λ c κs. search needs) (λ c. omega (arith, c .block-count .ensures)) put-pairs-requires-2 same-length returns)
+    (λ c κs. search needs) (λ c. omega (arith, c .before .block-count .ensures)) put-pairs-requires-2 same-length returns)

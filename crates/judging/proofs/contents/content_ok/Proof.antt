@@ -10,7 +10,7 @@ content-ok-requires : tie.Need-content-ok-requires
 content-ok-requires c κs = (c .before .before .pre .0 ∙ size-sparse _ (c .if1 .taken), omega arith)
 
 content-ok-requires-2 : tie.Need-content-ok-requires-2
-content-ok-requires-2 c κs = (c .before .before .pre .0 ∙ size-dense _ (c .if1 .left), (c .if1 .left, c .before .before .pre .1))
+content-ok-requires-2 c κs = (c .before .before .pre .0 ∙ size-dense _ (c .if1 .left), (omega arith, omega arith))
 
 pub content-ok-spec : {M : Type 1} → statement M
 content-ok-spec = tie.close (tie.spec content-ok-requires (λ c. search needs) content-ok-requires-2 (λ c. search needs))

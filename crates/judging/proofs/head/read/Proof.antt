@@ -4,6 +4,7 @@ use native.Mathlib.Omega.{arith}
 use borrow.Author.Needs.{needs}
 use borrow.Author.Tests.{lt-ltb, le-ltb}
 use lib.Seq.{length-take-le}
+use Rattle.spec.specs.Reading.{limit}
 use Rattle.judging.proofs.HeadLaws.{headFrom, head-short, head-read}
 use Rattle.judging.proofs.head.read.Statement.{statement}
 use Rattle.judging.proofs.head.read.Tie as tie
@@ -17,12 +18,12 @@ slice-aggregate-read c = sym (length-take-le _ _ (omega arith))
 returns-2 : tie.Need-returns-2
 returns-2 c =
     let k = c .before .before .before in
-    sym (head-read _ ∙ ap headFrom (sym (k .before .before .read .ensures) ∙ k .c .given .1) ∙ rw (lt-ltb _ _ (c .if2 .taken)))
+    sym (head-read _ ∙ ap headFrom (sym (k .before .before .read .ensures) ∙ k .c .given .1) ∙ rw (lt-ltb limit (k .c .given .0 .0 .count) (omega arith)))
 
 returns-3 : tie.Need-returns-3
 returns-3 c =
     let k = c .before .before .before .before in
-    sym (head-read _ ∙ ap headFrom (sym (k .before .before .read .ensures) ∙ k .c .given .1) ∙ rw (le-ltb _ _ (c .before .if2 .left)))
+    sym (head-read _ ∙ ap headFrom (sym (k .before .before .read .ensures) ∙ k .c .given .1) ∙ rw (le-ltb limit (k .c .given .0 .0 .count) (omega arith)))
 
 returns-4 : tie.Need-returns-4
 returns-4 c = sym (head-read _ ∙ ap headFrom (sym (c .before .before .read .ensures) ∙ c .enum-told .given .1))
