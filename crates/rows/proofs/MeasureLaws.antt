@@ -4,24 +4,16 @@ use mathlib.Core.Path.{_≡_, ap, _∙_}
 use mathlib.Core.List.{List, [], flatMap}
 use native.Mathlib.Omega.{arith}
 use lib.ListN.{length, drop, length-append, length-map, drop-of-length-le}
-use borrow.Author.Tests.{le-leb, lt-leb, leb-true}
+use borrow.Author.Tests.{leb-true}
 use Rattle.spec.specs.Layout.{size, dense, blocks, dataOf, allData}
 use Rattle.spec.specs.Reading.{part, dataSize}
 use Rattle.spec.proofs.Tests.{by-test}
 use Rattle.spec.proofs.Content.{length-data}
 use Rattle.rows.specs.Runs.{Run, Shaped, places}
 
--- ---- the data bytes of n rows
-
-pub size-sparse : (n : ℕ) → n < 5120 → dataSize n ≡ n * 2
-size-sparse n h = rw (lt-leb 5120 n h) (omega arith)
-
-pub size-dense : (n : ℕ) → 5120 ≤ n → dataSize n ≡ 10240
-size-dense n h = rw (le-leb 5120 n h)
-
 -- no more than two for each row, since dense data take no more than sparse ones would
-pub size-le : (n : ℕ) → dataSize n ≤ 2 * n
-size-le n = by-test (dense n) (λ e. rw e (omega (arith, leb-true 5120 n e))) (λ e. rw e (omega arith))
+pub size-twice : (n : ℕ) → dataSize n ≤ 2 * n
+size-twice n = by-test (dense n) (λ e. rw e (omega (arith, leb-true 5120 n e))) (λ e. rw e (omega arith))
 
 -- ---- after the runs before i
 
@@ -45,7 +37,7 @@ measuring-more {rows} {bytes} {entries} {i} m e n r q =
     ap (λ gs. length (allData gs)) (r .is) ∙ length-append (dataOf ps) (allData (blocks (drop e rows)))
     ∙ ap (λ k. k + length (allData (blocks (drop e rows)))) (length-data ps ∙ ap dataSize l) in
     let b : length (blocks (drop i rows)) ≡ 1 + length (blocks (drop e rows)) = ap length (r .is) ∙ omega arith in
-    let s = size-le (e - i) in
+    let s = size-twice (e - i) in
     record {
       within = r .within;
       few = omega (arith, m .few, r .some);

@@ -7,7 +7,6 @@ ghost use Prim.Native.Nat.{_+_, _*_, _/_, _≤_, _<_};
 ghost use lib.ListN.{length, getD};
 ghost use Rattle.spec.specs.Answers.{value, done, unless, rowFault};
 ghost use Rattle.spec.specs.Layout.{size};
-ghost use Rattle.spec.specs.Reading.{dataSize};
 ghost use Rattle.words.specs.Part.{NeverFalls};
 ghost use Rattle.rows.specs.Runs.{ascends, Below, Run, Shaped};
 
@@ -115,7 +114,7 @@ pub fn measure(rows: &[u32]) -> Shape
     let mut i = 0;
     while i < rows.len() {
         let to = block_run(rows, i);
-        bytes = bytes + data_size(to - i);
+        bytes = bytes + words::block::data_size(to - i);
         entries += 1;
         i = to;
     }
@@ -138,14 +137,4 @@ fn block_end(row: u32) -> u64
     ensures { λ r. ⌜ r ≡ row / size * size + size ⌝ }
 {
     (row / 65536) as u64 * 65536 + 65536
-}
-
-// The data bytes of a block of n rows.
-pub fn data_size(n: usize) -> usize
-    ensures { λ r. ⌜ r ≡ dataSize n ⌝ }
-{
-    if n < 5120 {
-        return n * 2;
-    }
-    10240
 }

@@ -50,7 +50,7 @@ entries-back count low at (g ∷ gs) pre rest h w l =
     (ap (entriesAt (length gs) (at + 4)) (regroup pre (entryOf g) (allEntries gs) rest)
     ∙ entries-back count (suc (g .number)) (at + 4) gs (pre ++ entryOf g) rest h (w .4) (longer pre (entryOf g) at (at + 4) l (omega arith)))
 
-entries-ok : (count low : ℕ) (gs : List Block) → Well count low gs → entriesOk count low (map entryFor gs) ≡ true
+pub entries-ok : (count low : ℕ) (gs : List Block) → Well count low gs → entriesOk count low (map entryFor gs) ≡ true
 unfolding entriesOk
 entries-ok count low [] w = refl
 entries-ok count low (g ∷ gs) w =

@@ -6,11 +6,11 @@ use mathlib.Core.List.{List, [], _∷_, _++_, flatMap, append-assoc, append-nil}
 use native.Mathlib.Omega.{arith}
 use lib.ListN.{length, length-append}
 use lib.Dec.{eqb}
-use borrow.Author.Tests.{le-leb, lt-leb, eqb-true, eq-eqb}
+use borrow.Author.Tests.{le-leb, lt-leb, leb-false, eqb-true, eq-eqb}
 use Rattle.spec.specs.Set.{rising, rank}
 use Rattle.spec.specs.Layout.{bytesOf, size, sparseData, word, miniBlock, miniBlocks, dense, dataOf, entryOf}
 use Rattle.spec.specs.Reading.{AreBytes, numberIn, part, dataSize, sparsePlaces, bits, wordAt, countAt, densePlaces, placesIn, countsOk, contentOk}
-use Rattle.spec.proofs.Tests.{and-true}
+use Rattle.spec.proofs.Tests.{by-test, and-true}
 use Rattle.spec.proofs.Bytes.{length-bytes, number-bytes, part-at, part-join, part-none, part-all, part-number, part-number-lt, regroup, next-part, longer}
 use Rattle.spec.proofs.Rising.{Rising, rising-facts, rising-true, rising-widen, rising-append}
 use Rattle.spec.proofs.Questions.{rank-le-sub, rank-rest}
@@ -41,6 +41,15 @@ length-data ps = go (dense (length ps))
     go false = length-sparse ps
 
 -- ---- the form: at most 5,119 rows are sparse, from 5,120 rows on they are dense
+
+pub size-sparse : (n : ℕ) → n < 5120 → dataSize n ≡ 2 * n
+size-sparse n h = rw (lt-leb 5120 n h)
+
+pub size-dense : (n : ℕ) → 5120 ≤ n → dataSize n ≡ 10240
+size-dense n h = rw (le-leb 5120 n h)
+
+pub size-le : (n : ℕ) → dataSize n ≤ 10240
+size-le n = by-test (dense n) (λ e. rw e (omega arith)) (λ e. rw e (omega (arith, leb-false 5120 n e)))
 
 pub data-sparse : (ps : List ℕ) → length ps ≤ 5119 → (dataOf ps ≡ flatMap (bytesOf 2) ps) × (dataSize (length ps) ≡ 2 * length ps)
 unfolding dataOf

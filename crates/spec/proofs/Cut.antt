@@ -26,7 +26,7 @@ rowsFrom b ps = map (λ p. b * size + p) ps
 -- ---- the cut
 
 -- blocks after block b add nothing before it
-bytes-none : (count low b : ℕ) (gs : List Block) → b ≤ low → Well count low gs → bytesBefore b gs ≡ 0
+pub bytes-none : (count low b : ℕ) (gs : List Block) → b ≤ low → Well count low gs → bytesBefore b gs ≡ 0
 unfolding bytesBefore
 bytes-none count low b [] h w = refl
 bytes-none count low b (g ∷ gs) h w =
@@ -38,7 +38,7 @@ places-none count low b [] h w = refl
 places-none count low b (g ∷ gs) h w =
     let l = w .0 in rw (ne-eqb (g .number) b (λ q. omega arith)) (places-none count (suc (g .number)) b gs (omega arith) (w .4))
 
-bytes-later : (b : ℕ) (g : Block) (gs : List Block) → g .number < b → bytesBefore b (g ∷ gs) ≡ dataSize (length (g .places)) + bytesBefore b gs
+pub bytes-later : (b : ℕ) (g : Block) (gs : List Block) → g .number < b → bytesBefore b (g ∷ gs) ≡ dataSize (length (g .places)) + bytesBefore b gs
 unfolding bytesBefore
 bytes-later b g gs l = rw (lt-ltb (g .number) b l) (omega arith)
 

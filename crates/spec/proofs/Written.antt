@@ -111,6 +111,8 @@ pub record Was-written (file : List ℕ) (h : Head) (gs : List Block) : Type 0 w
   pub head : h ≡ headOf (h .count)
   pub well : Well (h .count) 0 gs
   pub bytes : file ≡ written (h .count) gs
+  pub entries′ : entriesOf file ≡ map entryFor gs
+  pub fits : 4 * entryCount file + 2 ≤ length file
 
 passed-written : (file : List ℕ) (h : Head) → AreBytes file → headIn file ≡ some h → Passed file h → Was-written file h (blocksAt (entriesOf file) (h .start) file)
 unfolding written
@@ -139,6 +141,8 @@ passed-written file h y p t =
           ) ∙ ap₂ (λ a b. a ++ b) (read-front file h y p u)
           (sym (part-join (h .start) at n file (omega arith) (omega arith))
           ∙ ap₂ (λ a b. a ++ b) (sym (b .bytes)) (sym (part-join at (n - 2) n file (omega arith) (omega arith)) ∙ ap₂ (λ a b. a ++ b) es′ last));
+      entries′ = sym (b .entries′);
+      fits = omega arith;
     }
 
 pub was-written : (file : List ℕ) (h : Head) (gs : List Block) → AreBytes file → verdict file ≡ holds h gs → Was-written file h gs

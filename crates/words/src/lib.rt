@@ -1,4 +1,6 @@
-// Numbers in bytes: little-endian ones, the row count's groups of seven bits, and entries; bytes copied; what a block's questions answer.
+// Numbers in bytes: little-endian ones, the row count's groups of seven bits, and entries. Bytes copied, numbers of blocks, and what a
+// block's questions answer.
+pub mod block;
 pub mod count;
 pub mod entry;
 pub mod le;

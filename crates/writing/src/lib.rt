@@ -57,7 +57,7 @@ fn put_blocks(out: &mut [u8], at: usize, to: usize, rows: &[u32])
     while i < rows.len() {
         let end = rows::block_run(rows, i);
         put_block(out, a, b, &rows[i..end]);
-        a = a + rows::data_size(end - i);
+        a = a + words::block::data_size(end - i);
         b += 4;
         i = end;
     }
@@ -70,7 +70,7 @@ fn put_block(out: &mut [u8], at: usize, to: usize, rows: &[u32])
     ensures { λ r. ⌜ now (out .exit) ≡ sets (sets (now (out .entry)) at (dataOf (places (now (rows .entry))))) to (entryOf (record { number = getD (now (rows .entry)) 0 0 / size; places = places (now (rows .entry)) })) ⌝ }
 {
     let n = rows.len();
-    let end = at + rows::data_size(n);
+    let end = at + words::block::data_size(n);
     put_data(&mut out[at..end], rows);
     let number = (rows[0] / 65536) as u16;
     let entry = words::entry::to_bytes(Entry {

@@ -3,7 +3,7 @@ use Prim.Native.Nat.{_-_}
 use native.Mathlib.Omega.{arith}
 use borrow.Author.Needs.{needs}
 use lib.ListN.{length}
-use Rattle.rows.proofs.MeasureLaws.{Measuring, measuring-start, measuring-more, measuring-end, size-le}
+use Rattle.rows.proofs.MeasureLaws.{Measuring, measuring-start, measuring-more, measuring-end, size-twice}
 use Rattle.rows.proofs.measure.Statement.{statement}
 use Rattle.rows.proofs.measure.Tie as tie
 
@@ -25,7 +25,7 @@ sub-data-size c = omega (arith, c .block-run .ensures .some)
 add-bytes : tie.Need-add-bytes Inv-loop μ-loop
 add-bytes c =
     let r = c .before .block-run .ensures in
-    omega (arith, c .before .before .before .loop .inv .few, r .some, r .within, c .data-size .ensures, size-le (c .before .block-run .result - c .before .before .before .loop .i))
+    omega (arith, c .before .before .before .loop .inv .few, r .some, r .within, c .data-size .ensures, size-twice (c .before .block-run .result - c .before .before .before .loop .i))
 
 add-entries : tie.Need-add-entries Inv-loop μ-loop
 add-entries c = omega (arith, c .before .before .before .loop .inv .fewer)

@@ -2,7 +2,7 @@
 use mathlib.Core.Path.{_∙_}
 use native.Mathlib.Omega.{arith}
 use borrow.Author.Needs.{needs}
-use Rattle.rows.proofs.MeasureLaws.{size-sparse, size-dense}
+use Rattle.spec.proofs.Content.{size-sparse, size-dense}
 use Rattle.writing.proofs.PutLaws.{data-few, data-many}
 use Rattle.writing.proofs.put_data.Statement.{statement}
 use Rattle.writing.proofs.put_data.Tie as tie

@@ -1,9 +1,9 @@
--- `rows::data_size` meets its contract. Assumes nothing.
+-- `words::block::data_size` meets its contract. Assumes nothing.
 use mathlib.Core.Path.{sym}
 use borrow.Author.Needs.{needs}
-use Rattle.rows.proofs.MeasureLaws.{size-sparse, size-dense}
-use Rattle.rows.proofs.data_size.Statement.{statement}
-use Rattle.rows.proofs.data_size.Tie as tie
+use Rattle.spec.proofs.Content.{size-sparse, size-dense}
+use Rattle.words.proofs.block.data_size.Statement.{statement}
+use Rattle.words.proofs.block.data_size.Tie as tie
 
 returns : tie.Need-returns
 returns c = sym (size-sparse _ (c .if1 .taken))

@@ -1,0 +1,4 @@
+pub mod HeadLaws
+pub mod EntryLaws
+pub mod ContentLaws
+pub mod JudgeLaws
