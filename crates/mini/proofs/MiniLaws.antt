@@ -3,12 +3,11 @@ use Prim.Native.Nat.{ℕ, zero, suc, _+_, _-_, _*_, _^_, _≤_, _<_}
 use mathlib.Core.Path.{_≡_, refl, sym, ap, ap₂, _∙_}
 use mathlib.Core.List.{List, [], _∷_, _++_, append-nil}
 use native.Mathlib.Omega.{arith}
-use lib.ListN.{length, getD, take, drop, set, drop-of-length-le, length-append}
+use lib.ListN.{length, take, drop, drop-of-length-le, length-append}
 use lib.Seq.{sets, sets-eq, drop-drop, take-take, take-nil}
 use Rattle.spec.specs.Layout.{bytesOf}
 use Rattle.spec.specs.Reading.{AreBytes, numberIn, part}
 use Rattle.spec.proofs.Bytes.{length-bytes, number-bytes, part-at, part-all, part-join, part-number}
-use Rattle.words.proofs.LeLaws.{part-first}
 use Rattle.mini.specs.Mini.{miniIn, miniBytes, MiniAt}
 use Rattle.mini.specs.declared.DenseMiniBlock.{DenseMiniBlock}
 

@@ -1,5 +1,5 @@
 -- What the blocks of rows take, run by run.
-use Prim.Native.Nat.{ℕ, _+_, _-_, _*_, _%_, _≤_, _<_}
+use Prim.Native.Nat.{ℕ, _+_, _-_, _*_, _%_, _≤_}
 use mathlib.Core.Path.{_≡_, ap, _∙_}
 use mathlib.Core.List.{List, [], flatMap}
 use native.Mathlib.Omega.{arith}

@@ -4,7 +4,7 @@ use mathlib.Core.Path.{_≡_, refl, sym, ap, ap₂, _∙_}
 use mathlib.Core.Bool.{true}
 use mathlib.Core.List.{List, [], _∷_, _++_, map}
 use native.Mathlib.Omega.{arith, by-contra}
-use lib.ListN.{length, getD, take, drop, length-map, take-append-drop}
+use lib.ListN.{length, getD, drop, length-map, take-append-drop}
 use lib.Seq.{drop-drop}
 use Rattle.spec.specs.Layout.{size, blocks}
 use Rattle.spec.specs.Reading.{part}

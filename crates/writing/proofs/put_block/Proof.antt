@@ -1,6 +1,5 @@
 -- `writing::put_block` meets its contract: its data are laid, then its entry. Assumes nothing.
-use Prim.Native.Nat.{_%_}
-use mathlib.Core.Path.{sym, ap, ap₂, _∙_}
+use mathlib.Core.Path.{ap₂, _∙_}
 use native.Mathlib.Omega.{arith}
 use borrow.Author.Needs.{needs}
 use lib.Seq.{sets}
