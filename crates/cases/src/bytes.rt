@@ -1,5 +1,4 @@
 // The worked cases' bytes: row counts, entries, and a block's data and questions.
-use crate::lines;
 use codes::NONE;
 use spec::Entry;
 use words::Place;

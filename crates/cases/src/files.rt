@@ -1,5 +1,4 @@
 // The worked cases' files, written: the answer, and the whole output afterwards, which had 07 everywhere before.
-use crate::lines;
 use codes::NONE;
 use spec::Count;
 use spec::Number;

@@ -1,7 +1,6 @@
 // The worked cases of document 01 that code can be asked for, a line each: what came, and whether it is what the document says.
 mod bytes;
 mod files;
-mod lines;
 mod set;
 
 use codes::NONE;

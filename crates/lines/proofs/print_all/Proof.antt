@@ -1,10 +1,10 @@
--- `cases::lines::print_all` is safe and ends: a turn for each number. Assumes nothing.
+-- `lines::print_all` is safe and ends: a turn for each number. Assumes nothing.
 use Prim.Native.Nat.{_-_}
 use native.Mathlib.Omega.{arith}
 use borrow.Author.Needs.{needs}
 use lib.ListN.{length}
-use Rattle.cases.proofs.lines.print_all.Statement.{statement}
-use Rattle.cases.proofs.lines.print_all.Tie as tie
+use Rattle.lines.proofs.print_all.Statement.{statement}
+use Rattle.lines.proofs.print_all.Tie as tie
 
 abbrev Inv-loop : tie.InvT-loop
 Inv-loop numbers i₀ i = Unit {0}

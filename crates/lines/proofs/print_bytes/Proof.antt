@@ -1,10 +1,10 @@
--- `cases::lines::print_bytes` is safe and ends: a turn for each byte. Assumes nothing.
+-- `lines::print_bytes` is safe and ends: a turn for each byte. Assumes nothing.
 use Prim.Native.Nat.{_-_}
 use native.Mathlib.Omega.{arith}
 use borrow.Author.Needs.{needs}
 use lib.ListN.{length}
-use Rattle.cases.proofs.lines.print_bytes.Statement.{statement}
-use Rattle.cases.proofs.lines.print_bytes.Tie as tie
+use Rattle.lines.proofs.print_bytes.Statement.{statement}
+use Rattle.lines.proofs.print_bytes.Tie as tie
 
 abbrev Inv-loop : tie.InvT-loop
 Inv-loop bytes i₀ i = Unit {0}

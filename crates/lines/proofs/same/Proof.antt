@@ -1,4 +1,4 @@
--- `cases::lines::same` meets its contract: the elements passed are the same, so at the end the lists are. Assumes nothing.
+-- `lines::same` meets its contract: the elements passed are the same, so at the end the lists are. Assumes nothing.
 use Prim.Native.Nat.{ℕ, _≤_, _<_, _-_}
 use mathlib.Core.Path.{_≡_, refl, sym, ap, subst}
 use mathlib.Core.Bool.{true, false}
@@ -8,8 +8,8 @@ use borrow.Author.Count.{below-more}
 use lib.ListN.{length, getD}
 use lib.Dec.{T}
 use lib.Seq.{ext-getD}
-use Rattle.cases.proofs.lines.same.Statement.{statement}
-use Rattle.cases.proofs.lines.same.Tie as tie
+use Rattle.lines.proofs.same.Statement.{statement}
+use Rattle.lines.proofs.same.Tie as tie
 
 abbrev Inv-loop : tie.InvT-loop
 Inv-loop a b i₀ i = (i ≤ length a) × ((k : ℕ) → k < i → getD a k 0 ≡ getD b k 0)
