@@ -1,0 +1,2 @@
+// The questions over the bytes alone.
+mod spots;
