@@ -1,1 +1,3 @@
 pub mod WalkLaws
+pub mod SpotLaws
+pub mod AnswerLaws
