@@ -1,3 +1,4 @@
 pub mod WalkLaws
 pub mod SpotLaws
 pub mod AnswerLaws
+pub mod OnceLaws

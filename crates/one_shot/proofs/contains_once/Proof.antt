@@ -1,47 +1,29 @@
+-- `one_shot::contains_once` meets its contract: the verdict's refusal, or what the set says. Assumes nothing.
+use mathlib.Core.Path.{sym, ap, _∙_}
+use Rattle.spec.specs.Set.{bit}
 use borrow.Author.Needs.{needs}
+use Rattle.spec.specs.Answers.{value, opened, sayContains}
+use Rattle.one_shot.specs.Accepted.{Accepted}
+use Rattle.one_shot.proofs.OnceLaws.{owes-refusal, owes-set}
 use Rattle.one_shot.proofs.contains_once.Statement.{statement}
 use Rattle.one_shot.proofs.contains_once.Tie as tie
-use Rattle.one_shot.proofs.contains_once.Reads as reads
-use Rattle.one_shot.proofs.contains_once.Lts as lts
-use Rattle.judging.proofs.judge.Reads as judge-reads
-use Rattle.one_shot.proofs.accepted.contains.Reads as contains-reads
 
--- src/lib.rt:19:11
-judge-requires : tie.Need-judge-requires
-judge-requires c κs = search needs
+-- the record is that of an accepted file
+accepted : (c : tie.After-known-told2) → Accepted (c .before .before .before .before .before .args .bytes .now) (c .before .«record» .given .0 .0)
+accepted c = sym (ap opened (c .before .«record» .given .1)) ∙ c .before .before .before .judge .ensures
 
--- src/lib.rt:20:25
-enum-known-e : tie.Need-enum-known-e
-enum-known-e c = search needs
-
--- src/lib.rt:21:23
-enum-known-record : tie.Need-enum-known-record
-enum-known-record c = search needs
-
--- src/lib.rt:22:16
-contains-requires : tie.Need-contains-requires
-contains-requires c κs = ?
-
--- src/lib.rt:23:17
 returns : tie.Need-returns
-returns c = ?
+returns c =
+    let k = c .before .before in
+    owes-set _ (sayContains (k .before .before .before .before .before .args .row)) _ _ (accepted k) (λ h gs v. ap (λ t. value (bit t)) (sym (c .if1 .taken) ∙ c .before .contains .ensures h gs v))
 
--- src/lib.rt:16:1
 returns-2 : tie.Need-returns-2
-returns-2 c = ?
+returns-2 c = owes-refusal _ _ _ (sym (ap opened (c .before .e .given .1)) ∙ c .before .before .before .judge .ensures)
 
--- src/lib.rt:16:1
 returns-3 : tie.Need-returns-3
-returns-3 c = ?
+returns-3 c =
+    let k = c .before .before in
+    owes-set _ (sayContains (k .before .before .before .before .before .args .row)) _ _ (accepted k) (λ h gs v. ap (λ t. value (bit t)) (sym (c .if1 .left) ∙ c .before .contains .ensures h gs v))
 
 pub contains-once-spec : {M : Type 1} → statement M
-contains-once-spec =
-    tie.close
-    (tie.spec
-    judge-requires
-    enum-known-e
-    enum-known-record
-    contains-requires
-    returns
-    returns-2
-    returns-3)
+contains-once-spec = tie.close (tie.spec (λ c κs. search needs) (λ c. search needs) (λ c. search needs) (λ c κs. accepted c) returns returns-2 returns-3)

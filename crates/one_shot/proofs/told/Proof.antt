@@ -1,24 +1,13 @@
+-- `one_shot::told` meets its contract. Assumes nothing.
+use mathlib.Core.Path.{sym, ap}
 use borrow.Author.Needs.{needs}
+use Rattle.spec.specs.Answers.{orNothing}
+use Rattle.words.specs.Part.{placed}
 use Rattle.one_shot.proofs.told.Statement.{statement}
 use Rattle.one_shot.proofs.told.Tie as tie
-use Rattle.one_shot.proofs.told.Reads as reads
-use Rattle.one_shot.proofs.told.Lts as lts
 
--- src/lib.rt:80:19
-enum-known-p : tie.Need-enum-known-p
-enum-known-p c = search needs
-
--- src/lib.rt:81:27
-enum-told : tie.Need-enum-told
-enum-told c = search needs
-
--- src/lib.rt:76:1
 returns : tie.Need-returns
-returns c = ?
-
--- src/lib.rt:76:1
-returns-2 : tie.Need-returns-2
-returns-2 c = search needs
+returns c = sym (ap (λ p. orNothing (placed p)) (c .before .p .given .1))
 
 pub told-spec : {M : Type 1} → statement M
-told-spec = tie.close (tie.spec enum-known-p enum-told returns returns-2)
+told-spec = tie.close (tie.spec (λ c. search needs) (λ c. search needs) returns (λ c. search needs))

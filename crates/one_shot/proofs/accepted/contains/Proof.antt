@@ -1,48 +1,31 @@
+-- `one_shot::accepted::contains` meets its contract: the row's block answers. Assumes nothing.
+use mathlib.Core.Path.{sym}
 use borrow.Author.Needs.{needs}
+use Rattle.spec.proofs.Questions.{contains-past}
+use Rattle.one_shot.proofs.AnswerLaws.{opens, rise, entries-fit, block-within, contains-is}
 use Rattle.one_shot.proofs.accepted.contains.Statement.{statement}
 use Rattle.one_shot.proofs.accepted.contains.Tie as tie
-use Rattle.one_shot.proofs.accepted.contains.Reads as reads
-use Rattle.one_shot.proofs.accepted.contains.Lts as lts
-use Rattle.blocks.proofs.contains.Reads as contains-reads
-use Rattle.one_shot.proofs.accepted.part.Reads as part-reads
-use Rattle.one_shot.proofs.spots.of_block.Reads as of-block-reads
 
--- src/accepted.rt:19:9
 returns : tie.Need-returns
-returns c = ?
+returns c h gs v =
+    let s = c .before .before .before in
+    sym (contains-past _ _ _ (rise (opens _ _ (λ i. c .before .before .shared-slice-known .given i .fits) (s .pre) h gs v)) _ (c .if1 .taken))
 
--- src/accepted.rt:21:58
-cast-of-block : tie.Need-cast-of-block
-cast-of-block c = search needs
-
--- src/accepted.rt:21:9
 of-block-requires : tie.Need-of-block-requires
-of-block-requires c κs = ?
+of-block-requires c κs = entries-fit _ _ (λ i. c .before .before .shared-slice-known .given i .fits) (c .before .before .before .pre)
 
--- src/accepted.rt:22:22
 part-requires : tie.Need-part-requires
-part-requires c κs = ?
+part-requires c κs =
+    let s = c .before .before .before .before in
+    block-within _ _ (λ i. c .before .before .before .shared-slice-known .given i .fits) (s .pre) _ _ (c .of-block .ensures)
 
--- src/accepted.rt:22:41
-cast-contains : tie.Need-cast-contains
-cast-contains c = search needs
-
--- src/accepted.rt:22:5
-contains-requires : tie.Need-contains-requires
-contains-requires c κs = search needs
-
--- src/accepted.rt:14:1
 returns-2 : tie.Need-returns-2
-returns-2 c = ?
+returns-2 c h gs v =
+    let s = c .before .before .before .before .before .before in
+    let o = opens _ _ (λ i. c .before .before .before .before .before .shared-slice-known .given i .fits) (s .pre) h gs v in
+    contains-is o _ _ (c .before .before .of-block .ensures) _ (λ ps x. c .contains .ensures ps (rw (c .before .part .ensures) x))
 
 pub contains-spec : {M : Type 1} → statement M
 contains-spec =
     tie.close
-    (tie.spec
-    returns
-    cast-of-block
-    of-block-requires
-    part-requires
-    cast-contains
-    contains-requires
-    returns-2)
+    (tie.spec returns (λ c. search needs) of-block-requires part-requires (λ c. search needs) (λ c κs. search needs) returns-2)

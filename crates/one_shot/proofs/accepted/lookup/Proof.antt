@@ -1,78 +1,57 @@
+-- `one_shot::accepted::lookup` meets its contract: the rows before the row's block, and the rank in the block. Assumes nothing.
+use mathlib.Core.Path.{_≡_, sym, ap, _∙_}
+use native.Mathlib.Omega.{arith}
 use borrow.Author.Needs.{needs}
+use Prim.Native.Nat.{_+_, _^_, _<_}
+use mathlib.Core.List.{List}
+use Rattle.spec.specs.Set.{lookup}
+use Rattle.spec.specs.Layout.{Block, rowsOf}
+use Rattle.spec.specs.Reading.{Head}
+use Rattle.spec.proofs.Questions.{lookup-past, lookup-found}
+use Rattle.spec.proofs.Splits.{moved}
+use Rattle.words.specs.Part.{placed}
+use Rattle.one_shot.proofs.AnswerLaws.{Opens, opens, rise, entries-fit, block-within, lookup-is, rank-fits}
 use Rattle.one_shot.proofs.accepted.lookup.Statement.{statement}
 use Rattle.one_shot.proofs.accepted.lookup.Tie as tie
-use Rattle.one_shot.proofs.accepted.lookup.Reads as reads
-use Rattle.one_shot.proofs.accepted.lookup.Lts as lts
-use Rattle.blocks.proofs.lookup.Reads as lookup-reads
-use Rattle.one_shot.proofs.accepted.part.Reads as part-reads
-use Rattle.one_shot.proofs.spots.of_block.Reads as of-block-reads
 
--- src/accepted.rt:42:9
 returns : tie.Need-returns
-returns c = ?
+returns c h gs v =
+    let o = opens _ _ (λ i. c .before .before .shared-slice-known .given i .fits) (c .before .before .before .pre) h gs v in
+    sym (lookup-past _ _ _ (rise o) _ (c .if1 .taken))
 
--- src/accepted.rt:44:58
-cast-of-block : tie.Need-cast-of-block
-cast-of-block c = search needs
-
--- src/accepted.rt:44:9
 of-block-requires : tie.Need-of-block-requires
-of-block-requires c κs = ?
+of-block-requires c κs = entries-fit _ _ (λ i. c .before .before .shared-slice-known .given i .fits) (c .before .before .before .pre)
 
--- src/accepted.rt:45:26
 part-requires : tie.Need-part-requires
-part-requires c κs = ?
+part-requires c κs =
+    block-within _ _ (λ i. c .before .before .before .shared-slice-known .given i .fits) (c .before .before .before .before .pre) _ _ (c .of-block .ensures)
 
--- src/accepted.rt:45:45
-cast-lookup : tie.Need-cast-lookup
-cast-lookup c = search needs
+-- what the block says, behind the rows before it
+said : (c : tie.After-lookup) (h : Head) (gs : List Block) → Opens (c .before .before .before .before .before .before .args .bytes .now) (c .before .before .before .before .before .before .args .«record») h gs
+    → moved (c .before .before .of-block .result .rows) (placed (c .lookup .result)) ≡ lookup (c .before .before .before .before .before .before .args .row) (rowsOf gs)
+said c h gs o = lookup-is o _ _ (c .before .before .of-block .ensures) _ (λ ps x. c .lookup .ensures ps (rw (c .before .part .ensures) x))
 
--- src/accepted.rt:45:11
-lookup-requires : tie.Need-lookup-requires
-lookup-requires c κs = search needs
+-- a rank that is found fits
+small : (c : tie.After-below) → c .before .before .before .before .of-block .result .rows + c .below .given .0 .0 < 2 ^ 32
+small c =
+    let l = c .before .before in
+    rank-fits _ _ (λ i. l .before .before .before .before .before .shared-slice-known .given i .fits) (l .before .before .before .before .before .before .pre) _ (l .before .before .before .before .before .before .args .row)
+    (λ h gs o. lookup-found _ _ _ (sym (said l h gs o) ∙ ap (λ p. moved (l .before .before .of-block .result .rows) (placed p)) (c .below .given .1)) .1)
 
--- src/accepted.rt:46:19
-enum-known-below : tie.Need-enum-known-below
-enum-known-below c = search needs
-
--- src/accepted.rt:46:52
-cast-t12 : tie.Need-cast-t12
-cast-t12 c = search needs
-
--- src/accepted.rt:46:40
-add-t13 : tie.Need-add-t13
-add-t13 c = ?
-
--- src/accepted.rt:46:39
-cast-t14 : tie.Need-cast-t14
-cast-t14 c = ?
-
--- src/accepted.rt:47:27
-enum-told : tie.Need-enum-told
-enum-told c = search needs
-
--- src/accepted.rt:37:1
 returns-2 : tie.Need-returns-2
-returns-2 c = ?
+returns-2 c h gs v =
+    let l = c .before .before .before .before in
+    let o = opens _ _ (λ i. l .before .before .before .before .before .shared-slice-known .given i .fits) (l .before .before .before .before .before .before .pre) h gs v in
+    sym (ap (λ p. moved (l .before .before .of-block .result .rows) (placed p)) (c .before .before .below .given .1)) ∙ said l h gs o
 
--- src/accepted.rt:37:1
 returns-3 : tie.Need-returns-3
-returns-3 c = ?
+returns-3 c h gs v =
+    let l = c .before .before in
+    let o = opens _ _ (λ i. l .before .before .before .before .before .shared-slice-known .given i .fits) (l .before .before .before .before .before .before .pre) h gs v in
+    sym (ap (λ p. moved (l .before .before .of-block .result .rows) (placed p)) (c .enum-told .given .1)) ∙ said l h gs o
 
 pub lookup-spec : {M : Type 1} → statement M
 lookup-spec =
     tie.close
-    (tie.spec
-    returns
-    cast-of-block
-    of-block-requires
-    part-requires
-    cast-lookup
-    lookup-requires
-    enum-known-below
-    cast-t12
-    add-t13
-    cast-t14
-    enum-told
-    returns-2
-    returns-3)
+    (tie.spec returns (λ c. search needs) of-block-requires part-requires (λ c. search needs) (λ c κs. search needs) (λ c. search needs) (λ c. search needs)
+    (λ c. omega (arith, small (c .before .before))) (λ c. omega (arith, small (c .before .before))) (λ c. search needs) returns-2 returns-3)

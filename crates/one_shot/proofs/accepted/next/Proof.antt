@@ -1,109 +1,61 @@
+-- `one_shot::accepted::next` meets its contract: the row's block answers, or the first member of a later one. Assumes nothing.
+use mathlib.Core.Path.{sym}
+use native.Mathlib.Omega.{arith}
 use borrow.Author.Needs.{needs}
+use Rattle.spec.specs.Set.{next}
+use Rattle.spec.proofs.Questions.{next-past}
+use Rattle.one_shot.proofs.AnswerLaws.{opens, rise, entries-fit, few-blocks, block-within, next-here, next-none, next-later}
 use Rattle.one_shot.proofs.accepted.next.Statement.{statement}
 use Rattle.one_shot.proofs.accepted.next.Tie as tie
-use Rattle.one_shot.proofs.accepted.next.Reads as reads
-use Rattle.one_shot.proofs.accepted.next.Lts as lts
-use Rattle.blocks.proofs.next.Reads as next-reads
-use Rattle.one_shot.proofs.accepted.part.Reads as part-reads
-use Rattle.one_shot.proofs.accepted.select.Reads as select-reads
-use Rattle.one_shot.proofs.spots.of_block.Reads as of-block-reads
 
--- src/accepted.rt:68:9
 returns : tie.Need-returns
-returns c = ?
+returns c h gs v =
+    let o = opens _ _ (λ i. c .before .before .shared-slice-known .given i .fits) (c .before .before .before .pre) h gs v in
+    sym (next-past _ _ _ (rise o) _ (c .if1 .taken))
 
--- src/accepted.rt:70:18
-cast-number : tie.Need-cast-number
-cast-number c = search needs
-
--- src/accepted.rt:71:9
 of-block-requires : tie.Need-of-block-requires
-of-block-requires c κs = ?
+of-block-requires c κs = entries-fit _ _ (λ i. c .before .before .shared-slice-known .given i .fits) (c .before .before .before .pre)
 
--- src/accepted.rt:72:24
 part-requires : tie.Need-part-requires
-part-requires c κs = ?
+part-requires c κs =
+    block-within _ _ (λ i. c .before .before .before .shared-slice-known .given i .fits) (c .before .before .before .before .pre) _ _ (c .of-block .ensures)
 
--- src/accepted.rt:72:43
-cast-next : tie.Need-cast-next
-cast-next c = search needs
-
--- src/accepted.rt:72:11
-next-requires : tie.Need-next-requires
-next-requires c κs = search needs
-
--- src/accepted.rt:73:19
-enum-known-place : tie.Need-enum-known-place
-enum-known-place c = search needs
-
--- src/accepted.rt:73:47
-cast-t14 : tie.Need-cast-t14
-cast-t14 c = search needs
-
--- src/accepted.rt:73:39
-mul-t15 : tie.Need-mul-t15
-mul-t15 c = search needs
-
--- src/accepted.rt:73:39
 add-t16 : tie.Need-add-t16
-add-t16 c = ?
+add-t16 c = let n = c .before .before .before in omega (arith, rw (c .before .place .given .1) at (n .next .ensures .0))
 
--- src/accepted.rt:75:67
-enum-told : tie.Need-enum-told
-enum-told c = search needs
-
--- src/accepted.rt:75:67
 add-of-block : tie.Need-add-of-block
-add-of-block c = ?
+add-of-block c =
+    let s = c .before .before .before .before .before .before .before .before in
+    omega (arith, few-blocks _ _ (λ i. c .before .before .before .before .before .before .before .shared-slice-known .given i .fits) (s .pre))
 
--- src/accepted.rt:75:17
 of-block-requires-2 : tie.Need-of-block-requires-2
-of-block-requires-2 c κs = ?
+of-block-requires-2 c κs = entries-fit _ _ (λ i. c .before .before .before .before .before .before .before .shared-slice-known .given i .fits) (c .before .before .before .before .before .before .before .before .pre)
 
--- src/accepted.rt:76:16
-cast-if2 : tie.Need-cast-if2
-cast-if2 c = search needs
-
--- src/accepted.rt:77:17
 returns-2 : tie.Need-returns-2
-returns-2 c = ?
+returns-2 c h gs v =
+    let n = c .before .before .before .before .before .before in
+    let o = opens _ _ (λ i. n .before .before .before .before .before .shared-slice-known .given i .fits) (n .before .before .before .before .before .before .pre) h gs v in
+    next-none o _ _ (n .before .before .of-block .ensures) _ (λ ps x. n .next .ensures .1 ps (rw (n .before .part .ensures) x)) (c .before .before .before .before .enum-told .given .1)
+    _ (c .before .before .before .of-block2 .ensures) (c .if2 .taken)
 
--- src/accepted.rt:79:45
-cast-select : tie.Need-cast-select
-cast-select c = search needs
-
--- src/accepted.rt:79:23
-select-requires : tie.Need-select-requires
-select-requires c κs = search needs
-
--- src/accepted.rt:63:1
 returns-3 : tie.Need-returns-3
-returns-3 c = ?
+returns-3 c h gs v =
+    let n = c .before .before .before in
+    let o = opens _ _ (λ i. n .before .before .before .before .before .shared-slice-known .given i .fits) (n .before .before .before .before .before .before .pre) h gs v in
+    next-here o _ _ (n .before .before .of-block .ensures) _ (λ ps x. n .next .ensures .1 ps (rw (n .before .part .ensures) x)) _ (c .before .place .given .1)
 
--- src/accepted.rt:63:1
 returns-4 : tie.Need-returns-4
-returns-4 c = ?
+returns-4 c h gs v =
+    let n = c .before .before .before .before .before .before .before .before in
+    let o = opens _ _ (λ i. n .before .before .before .before .before .shared-slice-known .given i .fits) (n .before .before .before .before .before .before .pre) h gs v in
+    next-later o _ _ (n .before .before .of-block .ensures) _ (λ ps x. n .next .ensures .1 ps (rw (n .before .part .ensures) x)) (c .before .before .before .before .before .before .enum-told .given .1)
+    _ (c .before .before .before .before .before .of-block2 .ensures) (c .before .before .if2 .left) _ (c .select .ensures h gs v)
+
+select-requires : tie.Need-select-requires
+select-requires c κs = (c .before .before .before .before .before .before .before .before .before .before .before .before .before .pre, c .before .if2 .left)
 
 pub next-spec : {M : Type 1} → statement M
 next-spec =
     tie.close
-    (tie.spec
-    returns
-    cast-number
-    of-block-requires
-    part-requires
-    cast-next
-    next-requires
-    enum-known-place
-    cast-t14
-    mul-t15
-    add-t16
-    enum-told
-    add-of-block
-    of-block-requires-2
-    cast-if2
-    returns-2
-    cast-select
-    select-requires
-    returns-3
-    returns-4)
+    (tie.spec returns (λ c. search needs) of-block-requires part-requires (λ c. search needs) (λ c κs. search needs) (λ c. search needs) (λ c. search needs) (λ c. search needs)
+    add-t16 (λ c. search needs) add-of-block of-block-requires-2 (λ c. search needs) returns-2 (λ c. search needs) select-requires returns-3 returns-4)

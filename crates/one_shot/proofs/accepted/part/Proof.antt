@@ -1,24 +1,13 @@
+-- `one_shot::accepted::part` meets its contract. Assumes nothing.
+use mathlib.Core.Path.{refl}
 use borrow.Author.Needs.{needs}
+use Rattle.spec.specs.Reading.{part}
 use Rattle.one_shot.proofs.accepted.part.Statement.{statement}
 use Rattle.one_shot.proofs.accepted.part.Tie as tie
-use Rattle.one_shot.proofs.accepted.part.Reads as reads
-use Rattle.one_shot.proofs.accepted.part.Lts as lts
 
--- src/accepted.rt:91:5
-sub-result : tie.Need-sub-result
-sub-result c = search needs
-
--- src/accepted.rt:91:5
-part-result-start : tie.Need-part-result-start
-part-result-start c = search needs
-
--- src/accepted.rt:91:5
-part-result-end : tie.Need-part-result-end
-part-result-end c = search needs
-
--- src/accepted.rt:85:1
 returns : tie.Need-returns
-returns c = ?
+unfolding part
+returns c = refl
 
 pub part-spec : {M : Type 1} → statement M
-part-spec = tie.close (tie.spec sub-result part-result-start part-result-end returns)
+part-spec = tie.close (tie.spec (λ c. search needs) (λ c. search needs) (λ c. search needs) returns)

@@ -1,63 +1,39 @@
+-- `one_shot::accepted::rank` meets its contract: the rows before the row's block, and the block's. Assumes nothing.
+use mathlib.Core.Path.{sym, _∙_}
+use native.Mathlib.Omega.{arith}
 use borrow.Author.Needs.{needs}
+use Prim.Native.Nat.{_+_, _^_, _<_}
+use Rattle.spec.proofs.Questions.{rank-all}
+use Rattle.one_shot.proofs.AnswerLaws.{opens, rise, populated′, entries-fit, block-within, rank-is, rank-fits}
 use Rattle.one_shot.proofs.accepted.rank.Statement.{statement}
 use Rattle.one_shot.proofs.accepted.rank.Tie as tie
-use Rattle.one_shot.proofs.accepted.rank.Reads as reads
-use Rattle.one_shot.proofs.accepted.rank.Lts as lts
-use Rattle.blocks.proofs.rank.Reads as rank-reads
-use Rattle.one_shot.proofs.accepted.part.Reads as part-reads
-use Rattle.one_shot.proofs.spots.of_block.Reads as of-block-reads
 
--- src/accepted.rt:30:9
 returns : tie.Need-returns
-returns c = ?
+returns c h gs v =
+    let o = opens _ _ (λ i. c .before .before .shared-slice-known .given i .fits) (c .before .before .before .pre) h gs v in
+    populated′ o ∙ sym (rank-all _ _ _ (rise o) _ (c .if1 .taken))
 
--- src/accepted.rt:32:58
-cast-of-block : tie.Need-cast-of-block
-cast-of-block c = search needs
-
--- src/accepted.rt:32:9
 of-block-requires : tie.Need-of-block-requires
-of-block-requires c κs = ?
+of-block-requires c κs = entries-fit _ _ (λ i. c .before .before .shared-slice-known .given i .fits) (c .before .before .before .pre)
 
--- src/accepted.rt:33:30
 part-requires : tie.Need-part-requires
-part-requires c κs = ?
+part-requires c κs =
+    block-within _ _ (λ i. c .before .before .before .shared-slice-known .given i .fits) (c .before .before .before .before .pre) _ _ (c .of-block .ensures)
 
--- src/accepted.rt:33:49
-cast-rank : tie.Need-cast-rank
-cast-rank c = search needs
+-- the sum fits
+small : (c : tie.After-rank) → c .before .before .of-block .result .rows + c .rank .result < 2 ^ 32
+small c =
+    rank-fits _ _ (λ i. c .before .before .before .before .before .shared-slice-known .given i .fits) (c .before .before .before .before .before .before .pre) _ (c .before .before .before .before .before .before .args .row)
+    (λ h gs o. rank-is o _ _ (c .before .before .of-block .ensures) _ (λ ps x. c .rank .ensures ps (rw (c .before .part .ensures) x)))
 
--- src/accepted.rt:33:9
-rank-requires : tie.Need-rank-requires
-rank-requires c κs = search needs
-
--- src/accepted.rt:34:18
-cast-result : tie.Need-cast-result
-cast-result c = search needs
-
--- src/accepted.rt:34:6
-add-result : tie.Need-add-result
-add-result c = ?
-
--- src/accepted.rt:34:5
-cast-result-2 : tie.Need-cast-result-2
-cast-result-2 c = ?
-
--- src/accepted.rt:25:1
 returns-2 : tie.Need-returns-2
-returns-2 c = ?
+returns-2 c h gs v =
+    let r = c .before in
+    let o = opens _ _ (λ i. r .before .before .before .before .before .shared-slice-known .given i .fits) (r .before .before .before .before .before .before .pre) h gs v in
+    rank-is o _ _ (r .before .before .of-block .ensures) _ (λ ps x. r .rank .ensures ps (rw (r .before .part .ensures) x))
 
 pub rank-spec : {M : Type 1} → statement M
 rank-spec =
     tie.close
-    (tie.spec
-    returns
-    cast-of-block
-    of-block-requires
-    part-requires
-    cast-rank
-    rank-requires
-    cast-result
-    add-result
-    cast-result-2
-    returns-2)
+    (tie.spec returns (λ c. search needs) of-block-requires part-requires (λ c. search needs) (λ c κs. search needs) (λ c. search needs)
+    (λ c. omega (arith, small (c .before))) (λ c. omega (arith, small (c .before))) returns-2)

@@ -1,58 +1,30 @@
+-- `one_shot::accepted::select` meets its contract: the block of the rank answers. Assumes nothing.
+use mathlib.Core.Path.{refl}
 use borrow.Author.Needs.{needs}
+use Rattle.one_shot.proofs.AnswerLaws.{opens, entries-fit, rank-within, rank-upto, select-is}
 use Rattle.one_shot.proofs.accepted.select.Statement.{statement}
 use Rattle.one_shot.proofs.accepted.select.Tie as tie
-use Rattle.one_shot.proofs.accepted.select.Reads as reads
-use Rattle.one_shot.proofs.accepted.select.Lts as lts
-use Rattle.blocks.proofs.select.Reads as select-reads
-use Rattle.one_shot.proofs.accepted.part.Reads as part-reads
-use Rattle.one_shot.proofs.spots.of_rank.Reads as of-rank-reads
 
--- src/accepted.rt:57:9
 of-rank-requires : tie.Need-of-rank-requires
-of-rank-requires c κs = ?
+of-rank-requires c κs = entries-fit _ _ (λ i. c .shared-slice-known .given i .fits) (c .before .pre .0)
 
--- src/accepted.rt:58:17
 sub-left : tie.Need-sub-left
-sub-left c = ?
+sub-left c =
+    let s = c .before .before .before in
+    rank-upto _ _ (λ i. c .before .before .shared-slice-known .given i .fits) (s .pre .0) _ _ (s .pre .1) (c .before .of-rank .ensures)
 
--- src/accepted.rt:58:16
-cast-left : tie.Need-cast-left
-cast-left c = search needs
-
--- src/accepted.rt:59:13
-cast-result : tie.Need-cast-result
-cast-result c = search needs
-
--- src/accepted.rt:59:5
-mul-result : tie.Need-mul-result
-mul-result c = search needs
-
--- src/accepted.rt:59:49
 part-requires : tie.Need-part-requires
-part-requires c κs = ?
+part-requires c κs =
+    let s = c .before .before .before .before in
+    rank-within _ _ (λ i. c .before .before .before .shared-slice-known .given i .fits) (s .pre .0) _ _ (s .pre .1) (c .before .before .of-rank .ensures)
 
--- src/accepted.rt:59:34
-select-requires : tie.Need-select-requires
-select-requires c κs = search needs
-
--- src/accepted.rt:59:5
-add-result : tie.Need-add-result
-add-result c = search needs
-
--- src/accepted.rt:52:1
 returns : tie.Need-returns
-returns c = ?
+returns c h gs v =
+    let s = c .before .before .before .before .before .before in
+    let o = opens _ _ (λ i. c .before .before .before .before .before .shared-slice-known .given i .fits) (s .pre .0) h gs v in
+    select-is o _ _ _ _ (s .pre .1) (c .before .before .before .before .of-rank .ensures) refl (λ ps x. c .select .ensures .1 ps (rw (c .before .part .ensures) x))
 
 pub select-spec : {M : Type 1} → statement M
 select-spec =
     tie.close
-    (tie.spec
-    of-rank-requires
-    sub-left
-    cast-left
-    cast-result
-    mul-result
-    part-requires
-    select-requires
-    add-result
-    returns)
+    (tie.spec of-rank-requires sub-left (λ c. search needs) (λ c. search needs) (λ c. search needs) part-requires (λ c κs. search needs) (λ c. search needs) returns)
