@@ -24,8 +24,9 @@ use Rattle.spec.proofs.Directory.{given-well, given-rise, given-populated, word
 use Rattle.words.specs.declared.Place.{Place}
 use Rattle.words.specs.declared.Place.the-variants.{At, Nothing}
 use Rattle.words.specs.Part.{Holds, Of, placed}
-use Rattle.asking.specs.Parts.{partOf, Member}
-use Rattle.asking.proofs.PartLaws.{part-holds}
+use Rattle.directory.specs.Parts.{partOf}
+use Rattle.asking.specs.Members.{Member}
+use Rattle.directory.proofs.PartLaws.{part-holds}
 
 module _ (file directory : List ℕ) (rec : Record) (y : AreBytes file) (ok : broken file directory rec ≡ false) where
   told : (exact : List ℕ → Said ℕ) (s : Said ℕ) → Free s → ((h : Head) (gs : List Block) → Given file directory rec h gs → s ≡ exact (rowsOf gs))

@@ -1,3 +1,2 @@
-pub mod PartLaws
-pub mod FindLaws
+pub mod MemberLaws
 pub mod AnswerLaws

@@ -13,13 +13,13 @@ ghost use Rattle.spec.specs.Answers.{answered, numbered, found, ContainsOwes, R
 pub fn contains(bytes: &[u8], directory: &[u32], record: Record, row: u32) -> Answer
     ensures { λ r. ⌜ ContainsOwes (now (bytes .entry)) (now (directory .entry)) «record» row (answered r) ⌝ }
 {
-    if parts::broken(bytes, directory, record) {
+    if directory::broken(bytes, directory, record) {
         return Answer::Refused(Refusal::Broken);
     }
     if record.row_count <= row {
         return Answer::No;
     }
-    let part = parts::part(bytes, directory, record.data_start, (row / 65536) as usize);
+    let part = directory::part(bytes, directory, record.data_start, (row / 65536) as usize);
     if blocks::contains(part, (row % 65536) as u16) {
         return Answer::Yes;
     }
@@ -30,14 +30,14 @@ pub fn contains(bytes: &[u8], directory: &[u32], record: Record, row: u32) -> An
 pub fn rank(bytes: &[u8], directory: &[u32], record: Record, row: u32) -> Number
     ensures { λ r. ⌜ RankOwes (now (bytes .entry)) (now (directory .entry)) «record» row (numbered r) ⌝ }
 {
-    if parts::broken(bytes, directory, record) {
+    if directory::broken(bytes, directory, record) {
         return Number::Refused(Refusal::Broken);
     }
     if record.row_count <= row {
         return Number::Is(record.populated);
     }
     let block = (row / 65536) as usize;
-    let part = parts::part(bytes, directory, record.data_start, block);
+    let part = directory::part(bytes, directory, record.data_start, block);
     let below = blocks::rank(part, (row % 65536) as u16);
     Number::Is(std::num::wrapping_add_u32(directory[2 * block], below))
 }
@@ -46,14 +46,14 @@ pub fn rank(bytes: &[u8], directory: &[u32], record: Record, row: u32) -> Number
 pub fn lookup(bytes: &[u8], directory: &[u32], record: Record, row: u32) -> Found
     ensures { λ r. ⌜ LookupOwes (now (bytes .entry)) (now (directory .entry)) «record» row (found r) ⌝ }
 {
-    if parts::broken(bytes, directory, record) {
+    if directory::broken(bytes, directory, record) {
         return Found::Refused(Refusal::Broken);
     }
     if record.row_count <= row {
         return Found::Nothing;
     }
     let block = (row / 65536) as usize;
-    let part = parts::part(bytes, directory, record.data_start, block);
+    let part = directory::part(bytes, directory, record.data_start, block);
     match blocks::lookup(part, (row % 65536) as u16) {
         Place::At(below) => Found::At(std::num::wrapping_add_u32(directory[2 * block], below)),
         Place::Nothing => Found::Nothing,
@@ -64,7 +64,7 @@ pub fn lookup(bytes: &[u8], directory: &[u32], record: Record, row: u32) -> Foun
 pub fn select(bytes: &[u8], directory: &[u32], record: Record, rank: u32) -> Number
     ensures { λ r. ⌜ SelectOwes (now (bytes .entry)) (now (directory .entry)) «record» rank (numbered r) ⌝ }
 {
-    if parts::broken(bytes, directory, record) {
+    if directory::broken(bytes, directory, record) {
         return Number::Refused(Refusal::Broken);
     }
     if record.populated <= rank {
@@ -78,14 +78,14 @@ pub fn select(bytes: &[u8], directory: &[u32], record: Record, rank: u32) -> Num
 pub fn next(bytes: &[u8], directory: &[u32], record: Record, row: u32) -> Found
     ensures { λ r. ⌜ NextOwes (now (bytes .entry)) (now (directory .entry)) «record» row (found r) ⌝ }
 {
-    if parts::broken(bytes, directory, record) {
+    if directory::broken(bytes, directory, record) {
         return Found::Refused(Refusal::Broken);
     }
     if record.row_count <= row {
         return Found::Nothing;
     }
     let block = row / 65536;
-    let part = parts::part(bytes, directory, record.data_start, block as usize);
+    let part = directory::part(bytes, directory, record.data_start, block as usize);
     match blocks::next(part, (row % 65536) as u16) {
         Place::At(place) => Found::At(65536 * block + place),
         Place::Nothing => {

@@ -2,7 +2,7 @@
 use native.Mathlib.Omega.{arith}
 use borrow.Author.Needs.{needs}
 use Rattle.spec.proofs.Asking.{Unbroken, unbroken}
-use Rattle.asking.proofs.FindLaws.{is-member}
+use Rattle.asking.proofs.MemberLaws.{is-member}
 use Rattle.asking.proofs.parts.member.Statement.{statement}
 use Rattle.asking.proofs.parts.member.Tie as tie
 

@@ -1,11 +1,11 @@
--- `parts::part` meets its contract. Assumes nothing.
+-- `directory::part` meets its contract. Assumes nothing.
 use Prim.Native.Nat.{_+_, _*_}
 use native.Mathlib.Omega.{arith}
 use borrow.Author.Needs.{needs}
 use Rattle.spec.specs.Reading.{part}
-use Rattle.asking.proofs.PartLaws.{inside-back, inside-past, inside-part}
-use Rattle.asking.proofs.parts.part.Statement.{statement}
-use Rattle.asking.proofs.parts.part.Tie as tie
+use Rattle.directory.proofs.PartLaws.{inside-back, inside-past, inside-part}
+use Rattle.directory.proofs.part.Statement.{statement}
+use Rattle.directory.proofs.part.Tie as tie
 
 cast-from : tie.Need-cast-from
 cast-from c = omega (arith, c .shared-slice-known .given (2 * c .before .args .block + 1))

@@ -1,11 +1,11 @@
--- `parts::broken` meets its contract. Assumes nothing.
+-- `directory::broken` meets its contract. Assumes nothing.
 use Prim.Native.Nat.{_+_, _*_, _^_, _<_}
 use native.Mathlib.Omega.{arith}
 use borrow.Author.Needs.{needs}
 use lib.ListN.{getD}
-use Rattle.asking.proofs.PartLaws.{is-broken, total-broken, last-test}
-use Rattle.asking.proofs.parts.broken.Statement.{statement}
-use Rattle.asking.proofs.parts.broken.Tie as tie
+use Rattle.directory.proofs.PartLaws.{is-broken, total-broken, last-test}
+use Rattle.directory.proofs.broken.Statement.{statement}
+use Rattle.directory.proofs.broken.Tie as tie
 
 returns : tie.Need-returns
 returns c = is-broken _ _ _ (λ u. omega (arith, u .count))

@@ -1,11 +1,11 @@
--- `parts::find_block` meets its contract: the blocks from base on that are left have the rank, if any of them has. Assumes nothing.
+-- `directory::find_block` meets its contract: the blocks from base on that are left have the rank, if any of them has. Assumes nothing.
 use Prim.Native.Nat.{_+_, _*_, _/_, _≤_}
 use native.Mathlib.Omega.{arith}
 use lib.Dec.{leb}
 use lib.ListN.{getD}
-use Rattle.asking.proofs.FindLaws.{Halving, halving-all, times-bit, halving-more, halved}
-use Rattle.asking.proofs.parts.find_block.Statement.{statement}
-use Rattle.asking.proofs.parts.find_block.Tie as tie
+use Rattle.directory.proofs.FindLaws.{Halving, halving-all, times-bit, halving-more, halved}
+use Rattle.directory.proofs.find_block.Statement.{statement}
+use Rattle.directory.proofs.find_block.Tie as tie
 
 abbrev Inv-loop : tie.InvT-loop
 Inv-loop directory blocks k base₀ left₀ base left = Halving directory blocks k base left

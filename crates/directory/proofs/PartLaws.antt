@@ -18,7 +18,7 @@ use Rattle.spec.proofs.Cut.{placesOf}
 use Rattle.spec.proofs.Splits.{places-rise}
 use Rattle.spec.proofs.Directory.{given-well, leads, leads-within}
 use Rattle.words.specs.Part.{Holds}
-use Rattle.asking.specs.Parts.{inside, partOf}
+use Rattle.directory.specs.Parts.{inside, partOf}
 
 -- ---- 10
 

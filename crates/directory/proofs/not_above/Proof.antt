@@ -1,11 +1,11 @@
--- `parts::not_above` meets its contract. Assumes nothing.
+-- `directory::not_above` meets its contract. Assumes nothing.
 use native.Mathlib.Omega.{arith}
 use borrow.Author.Needs.{needs}
 use borrow.Author.Tests.{leb-true, leb-false}
 use lib.Dec.{leb}
 use Rattle.spec.proofs.Tests.{by-test}
-use Rattle.asking.proofs.parts.not_above.Statement.{statement}
-use Rattle.asking.proofs.parts.not_above.Tie as tie
+use Rattle.directory.proofs.not_above.Statement.{statement}
+use Rattle.directory.proofs.not_above.Tie as tie
 
 returns : tie.Need-returns
 returns c =

@@ -1,14 +1,10 @@
 -- The part of a block by the directory's offsets, and what finding the block of a rank says.
 use Prim.Native.Nat.{ℕ, _+_, _*_, _≤_, _<_}
-use mathlib.Core.Path.{_≡_}
 use mathlib.Core.Bool.{_&&_, cond}
 use mathlib.Core.List.{List, []}
 use lib.ListN.{length, getD}
 use lib.Dec.{leb}
-use Rattle.spec.specs.declared.Record.{Record}
-use Rattle.spec.specs.Set.{select}
-use Rattle.spec.specs.Layout.{Block, rowsOf}
-use Rattle.spec.specs.Reading.{part, Head, Given}
+use Rattle.spec.specs.Reading.{part}
 
 -- the part from one index to another, where they are in order and inside the file; otherwise none
 unfoldable pub inside : ℕ → ℕ → List ℕ → List ℕ
@@ -26,7 +22,3 @@ Climbs directory n = (i j : ℕ) → i ≤ j → j ≤ n → getD directory (2 *
 pub record Bracket (directory : List ℕ) (n k b : ℕ) : Type 0 where
   pub one : b < n
   pub has : Climbs directory n → getD directory 0 0 ≤ k → k < getD directory (2 * n) 0 → (getD directory (2 * b) 0 ≤ k) × (k < getD directory (2 * (b + 1)) 0)
-
--- of what opening gave together, the member with exactly k members below it
-abbrev pub Member : List ℕ → List ℕ → Record → ℕ → ℕ → Type 0
-Member file directory rec k r = (h : Head) (gs : List Block) → Given file directory rec h gs → r ≡ select k (rowsOf gs)
