@@ -4,3 +4,5 @@ pub mod SelectLaws
 pub mod NextLaws
 pub mod ContentLaws
 pub mod WriteLaws
+pub mod BatchLaws
+pub mod PageLaws

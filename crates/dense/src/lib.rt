@@ -5,12 +5,12 @@ use words::Place;
 ghost use mathlib.Core.Path.{_≡_};
 ghost use mathlib.Core.Bool.{true};
 ghost use mathlib.Core.List.{map};
-ghost use Prim.Native.Nat.{_%_, _^_, _≤_, _<_};
+ghost use Prim.Native.Nat.{_+_, _%_, _^_, _≤_, _<_};
 ghost use lib.ListN.{length};
 ghost use Rattle.spec.specs.Set.{rising, contains, rank, lookup, select, next};
 ghost use Rattle.spec.specs.Layout.{size, denseData};
 ghost use Rattle.spec.specs.Reading.{contentOk};
-ghost use Rattle.words.specs.Part.{Of, placed, Inside};
+ghost use Rattle.words.specs.Part.{Of, placed, Inside, NeverFalls, InBlock, Batched, Paged};
 ghost use Rattle.dense.specs.Mini.{LastMini};
 
 // Whether a place is in the block.
@@ -140,4 +140,62 @@ pub fn write(rows: &[u32], out: &mut [u8]) -> u16
     let g = mini::gather(rows, i, 1023);
     mini::put(out, 1023, before, g.word);
     std::num::wrapping_add_u16(before, u64::count_ones(g.word) as u16)
+}
+
+// Questions that never fall, rows of the block that begins at row base: hits go to the front of rows, their ranks, counted on from
+// first in 32 bits, to the front of ranks; returns their number.
+pub fn batch(
+    part: &[u8],
+    questions: &[u32],
+    base: u32,
+    first: u32,
+    rows: &mut [u32],
+    ranks: &mut [u32],
+) -> usize
+    requires { ⌜ length (now part) ≡ 10240 ⌝ }
+    requires { ⌜ base + 65536 ≤ 2 ^ 32 ⌝ }
+    requires { ⌜ NeverFalls (now questions) × InBlock base (now questions) ⌝ }
+    requires { ⌜ (length (now questions) ≤ length (now rows)) × (length (now questions) ≤ length (now ranks)) ⌝ }
+    ensures { λ r. ⌜ Batched (now (part .entry)) (now (questions .entry)) base first (now (rows .entry)) (now (ranks .entry)) (now (rows .exit)) (now (ranks .exit)) r ⌝ }
+{
+    let mut n = 0;
+    let mut i = 0;
+    while i < questions.len() {
+        let row = questions[i];
+        i += 1;
+        match lookup(part, (row - base) as u16) {
+            Place::At(at) => {
+                rows[n] = row;
+                ranks[n] = std::num::wrapping_add_u32(first, at);
+                n += 1;
+            }
+            Place::Nothing => {}
+        }
+    }
+    n
+}
+
+// Fills out with the rows of the block that begins at row base, from that with `from` rows of the block below it on.
+pub fn page(part: &[u8], base: u32, from: u32, out: &mut [u32])
+    requires { ⌜ length (now part) ≡ 10240 ⌝ }
+    requires { ⌜ base + 65536 ≤ 2 ^ 32 ⌝ }
+    ensures { λ r. ⌜ Paged (now (part .entry)) base from (now (out .entry)) (now (out .exit)) ⌝ }
+{
+    let mut m = find_mini(part, from);
+    let x = mini::mini_block(part, m);
+    let mut word = bits::clear_lowest(x.bitvec, std::num::wrapping_sub_u32(from, x.rank as u32));
+    let mut j = 0;
+    while j < out.len() {
+        if word == 0 {
+            if m == 1023 {
+                return;
+            }
+            m += 1;
+            word = words::le::read(part, 10 * m as usize, 8);
+        } else {
+            out[j] = base + 64 * m as u32 + u64::trailing_zeros(word);
+            word = word & (word - 1);
+            j += 1;
+        }
+    }
 }

@@ -1,13 +1,13 @@
 -- The lowest places of a word: clearing the lowest bit, the trailing zeros, the bits from a place on, and none past an end.
 use Prim.Native.Nat.{ℕ, zero, suc, _+_, _-_, _*_, _/_, _%_, _^_, _≤_, _<_}
-use mathlib.Core.Path.{_≡_, refl, sym, ap, _∙_}
+use mathlib.Core.Path.{_≡_, refl, sym, ap, ap₂, _∙_}
 use mathlib.Core.Bool.{true, cond}
-use mathlib.Core.List.{[]}
+use mathlib.Core.List.{[], _∷_}
 use mathlib.Core.Option.{some, none}
 use native.Mathlib.Nat.{mod-eq-of-lt, div-one, div-eq-of-lt, zero-div, div-mul-le-self, lt-of-le-of-lt, lt-of-lt-of-le, mul-one, add-zero, pow-suc}
 use native.Mathlib.Omega.{arith}
 use lib.ListN.{length, getD, drop, length-drop}
-use lib.Seq.{drop-drop, getD-drop}
+use lib.Seq.{drop-cons, drop-drop, getD-drop}
 use lib.Dec.{ltb, eqb, leb·suc-suc}
 use lib.Bits.{bitAnd, and-step, and-self}
 use lib.Count.{trailingZeros}
@@ -16,13 +16,14 @@ use borrow.Author.Tests.{eq-eqb, ne-eqb, eqb-true, eqb-false, lt-leb, le-leb, lt
 use Rattle.spec.specs.Set.{next, below}
 use Rattle.spec.specs.Reading.{bits}
 use Rattle.spec.proofs.Tests.{by-test}
+use Rattle.spec.proofs.Rising.{rising-between}
 use Rattle.spec.proofs.Questions.{next-low}
 use Rattle.spec.proofs.Words.{bits-rising}
 use Rattle.mini.specs.Bits.{orNone}
 use Rattle.mini.proofs.BitLaws.{by-parity, bits-odd, bits-even, no-bits, half-pow}
 
 -- a word without bits has no places, so one with places is not 0
-bits-zero : (f p : ℕ) → bits f p 0 ≡ []
+pub bits-zero : (f p : ℕ) → bits f p 0 ≡ []
 bits-zero zero p = no-bits p 0
 bits-zero (suc f) p = bits-even f p 0 refl ∙ bits-zero f (suc p)
 
@@ -30,9 +31,15 @@ some-bits : (f p w : ℕ) → 0 < length (bits f p w) → 0 < w
 some-bits f p zero h = absurd (omega (arith, ap length (bits-zero f p)))
 some-bits f p (suc w) h = omega arith
 
+bits-some : (f p w : ℕ) → w < 2 ^ f → 0 < w → 0 < length (bits f p w)
+bits-some zero p w h l = absurd (omega arith)
+bits-some (suc f) p w h l =
+    by-parity w (λ e. rw (bits-even f p w e) (bits-some f (suc p) (w / 2) (omega (arith, pow-suc 2 f)) (omega arith)))
+    (λ e. rw (bits-odd f p w e) (omega arith))
+
 -- ---- clearing the lowest bit, `w & (w - 1)`: the first place goes
 
-clear-lowest : (f p w : ℕ) → 0 < w → bits f p (bitAnd w (w - 1)) ≡ drop 1 (bits f p w)
+pub clear-lowest : (f p w : ℕ) → 0 < w → bits f p (bitAnd w (w - 1)) ≡ drop 1 (bits f p w)
 clear-lowest zero p w h = simp no-bits
 clear-lowest (suc f) p w h =
     by-parity w
@@ -82,6 +89,19 @@ first-place (suc f) p w h =
     by-parity w
     (λ e. rw (zeros-even f w e, bits-even f p w e) (omega (arith, first-place f (suc p) (w / 2) (rw (bits-even f p w e) at h))))
     (λ e. rw (zeros-odd f w e, bits-odd f p w e) (add-zero p))
+
+-- so the places of a word that is not 0 are the first, and those that are left when its lowest bit is cleared
+pub lowest-first : (f p w : ℕ) → w < 2 ^ f → 0 < w → bits f p w ≡ (p + trailingZeros f w) ∷ bits f p (bitAnd w (w - 1))
+lowest-first f p w h l =
+    let some : 0 < length (bits f p w) = bits-some f p w h l in
+    let first = first-place f p w some in
+    drop-cons (bits f p w) 0 0 some ∙ ap₂ (λ x xs. x ∷ xs) (sym first) (sym (clear-lowest f p w l))
+
+-- and the first is one of its f bits
+pub zeros-lt : (f w : ℕ) → w < 2 ^ f → 0 < w → trailingZeros f w < f
+zeros-lt f w h l =
+    let some : 0 < length (bits f 0 w) = bits-some f 0 w h l in
+    omega (arith, first-place f 0 w some, rising-between 0 0 (0 + f) (bits f 0 w) some (bits-rising f 0 w))
 
 -- ---- the word v that is left of w when its i lowest bits are cleared
 

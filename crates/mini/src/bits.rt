@@ -1,8 +1,8 @@
 // A word's 64 bits as a set of places: place p is in the set where bit p is set.
 ghost use mathlib.Core.Path.{_≡_};
 ghost use mathlib.Core.Bool.{cond};
-ghost use Prim.Native.Nat.{_+_, _^_, _<_, _≤_};
-ghost use lib.ListN.{length};
+ghost use Prim.Native.Nat.{ℕ, _+_, _^_, _<_, _≤_};
+ghost use lib.ListN.{length, drop};
 ghost use Rattle.spec.specs.Set.{contains, rank, select, next, below};
 ghost use Rattle.spec.specs.Reading.{bits};
 ghost use Rattle.mini.specs.Bits.{orNone};
@@ -42,6 +42,22 @@ pub fn select_u64(bitvec: u64, k: u16) -> u16
         left = left & (left - 1);
     }
     u64::trailing_zeros(left) as u16
+}
+
+// The word of the set without its first n places.
+pub fn clear_lowest(bitvec: u64, n: u32) -> u64
+    ensures { λ r. ⌜ ((p : ℕ) → bits 64 p r ≡ drop n (bits 64 p bitvec)) ⌝ }
+{
+    let mut left = bitvec;
+    let mut i = 0;
+    while i < n {
+        if left == 0 {
+            return 0;
+        }
+        left = left & (left - 1);
+        i += 1;
+    }
+    left
 }
 
 // The first place in the set at or after a place; 64 where there is none.

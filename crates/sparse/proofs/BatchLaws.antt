@@ -1,15 +1,12 @@
 -- The turns of the sorted batch in a block: the cursor stays on a match, and passes only places below every question left.
 use Prim.Native.Nat.{ℕ, _+_, _-_, _/_, _%_, _^_, _≤_, _<_}
-use mathlib.Core.Path.{_≡_, refl, sym, ap, _∙_}
+use mathlib.Core.Path.{_≡_, sym, ap, _∙_}
 use mathlib.Core.Bool.{true, false}
-use mathlib.Core.List.{List, [], _∷_, map}
+use mathlib.Core.List.{List}
 use native.Mathlib.Omega.{arith}
 use lib.ListN.{length, getD, set}
-use lib.Dec.{ltb, eqb}
-use borrow.Author.Tests.{lt-ltb, le-ltb, eq-eqb, ne-eqb, ltb-true, ltb-false, eqb-true, eqb-false}
 use Rattle.spec.specs.Set.{rising, contains, rank}
 use Rattle.spec.specs.Layout.{size}
-use Rattle.spec.proofs.Tests.{by-test}
 use Rattle.spec.proofs.Rising.{rising-facts}
 use Rattle.spec.proofs.Questions.{rank-below}
 use Rattle.words.specs.Part.{NeverFalls, InBlock, Batched}
@@ -18,26 +15,8 @@ use Rattle.search.specs.declared.Search.{Search}
 use Rattle.search.specs.declared.Search.the-variants.{Found, Insert}
 use Rattle.sparse.proofs.PlaceLaws.{held}
 use Rattle.search.proofs.SearchLaws.{answer-found, answer-insert}
+use Rattle.words.proofs.RowLaws.{rowsFrom, row-contains, row-rank}
 use Rattle.words.proofs.FillLaws.{Filling, filling-none, filling-hit, filling-miss, filling-all}
-
--- ---- the rows of a block that begins at row base
-
-abbrev rowsFrom : ℕ → List ℕ → List ℕ
-rowsFrom base ps = map (λ p. base + p) ps
-
-contains-from : (base t : ℕ) (ps : List ℕ) → contains (base + t) (rowsFrom base ps) ≡ contains t ps
-unfolding contains
-contains-from base t [] = refl
-contains-from base t (p ∷ ps) =
-    rw (contains-from base t ps) (by-test (eqb p t) (λ q. rw (q, eq-eqb (base + p) (base + t) (omega (arith, eqb-true p t q))))
-    (λ q. rw (q, ne-eqb (base + p) (base + t) (λ e. eqb-false p t q (omega arith)))))
-
-rank-from : (base t : ℕ) (ps : List ℕ) → rank (base + t) (rowsFrom base ps) ≡ rank t ps
-unfolding rank
-rank-from base t [] = refl
-rank-from base t (p ∷ ps) =
-    rw (rank-from base t ps) (by-test (ltb p t) (λ q. rw (q, lt-ltb (base + p) (base + t) (omega (arith, ltb-true p t q))))
-    (λ q. rw (q, le-ltb (base + p) (base + t) (omega (arith, ltb-false p t q)))))
 
 -- ---- the batch
 
@@ -53,18 +32,11 @@ asking-none bs qs base first rows ranks =
 
 module _ {bs qs rows₀ ranks₀ rows ranks : List ℕ} {base first n cursor i : ℕ} (a : Asking bs qs base first rows₀ ranks₀ rows ranks n cursor i)
     (order : NeverFalls qs) (block : InBlock base qs) (h : i < length qs) {r : Search} (f : Finds bs (getD qs i 0 - base) cursor r) where
-  is : base + (getD qs i 0 - base) ≡ getD qs i 0
-  is = omega (arith, block i h)
+  from : base ≤ getD qs i 0
+  from = block i h .0
 
   says : rising 0 size (placesSaid bs) ≡ true → r ≡ answer (getD qs i 0 - base) (placesSaid bs)
   says rises = f .exact rises (a .passed rises i (omega arith) h)
-
-  -- the question as a row says what its place says
-  row-contains : contains (getD qs i 0) (rowsFrom base (placesSaid bs)) ≡ contains (getD qs i 0 - base) (placesSaid bs)
-  row-contains = ap (λ d. contains d (rowsFrom base (placesSaid bs))) (sym is) ∙ contains-from base (getD qs i 0 - base) (placesSaid bs)
-
-  row-rank : rank (getD qs i 0) (rowsFrom base (placesSaid bs)) ≡ rank (getD qs i 0 - base) (placesSaid bs)
-  row-rank = ap (λ d. rank d (rowsFrom base (placesSaid bs))) (sym is) ∙ rank-from base (getD qs i 0 - base) (placesSaid bs)
 
   -- the cursor goes to the rank of the question, so it passes no place that a later one, which is not below it, could be at
   passes : (at : ℕ) → (rising 0 size (placesSaid bs) ≡ true → at ≡ rank (getD qs i 0 - base) (placesSaid bs))
@@ -79,7 +51,7 @@ module _ {bs qs rows₀ ranks₀ rows ranks : List ℕ} {base first n cursor i :
   pub asking-hit : (at x : ℕ) → r ≡ Found at → x ≡ (first + at) % 2 ^ 32
       → Asking bs qs base first rows₀ ranks₀ (set rows n (getD qs i 0)) (set ranks n x) (n + 1) at (i + 1)
   asking-hit at x e q = record {
-    filled = filling-hit (a .filled) x h (λ rises. (row-contains ∙ found rises .0, q ∙ ap (λ k. (first + k) % 2 ^ 32) (found rises .1 ∙ sym row-rank)));
+    filled = filling-hit (a .filled) x h (λ rises. (row-contains base (getD qs i 0) (placesSaid bs) from ∙ found rises .0, q ∙ ap (λ k. (first + k) % 2 ^ 32) (found rises .1 ∙ sym (row-rank base (getD qs i 0) (placesSaid bs) from))));
     inside = omega (arith, f .inside, ap indexOf e);
     passed = passes at (λ rises. found rises .1);
   }
@@ -89,7 +61,7 @@ module _ {bs qs rows₀ ranks₀ rows ranks : List ℕ} {base first n cursor i :
 
   pub asking-miss : (at : ℕ) → r ≡ Insert at → Asking bs qs base first rows₀ ranks₀ rows ranks n at (i + 1)
   asking-miss at e = record {
-    filled = filling-miss (a .filled) h (λ rises. row-contains ∙ absent rises .0);
+    filled = filling-miss (a .filled) h (λ rises. row-contains base (getD qs i 0) (placesSaid bs) from ∙ absent rises .0);
     inside = omega (arith, f .inside, ap indexOf e);
     passed = passes at (λ rises. absent rises .1);
   }

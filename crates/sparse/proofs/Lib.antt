@@ -2,3 +2,4 @@ pub mod PlaceLaws
 pub mod QuestionLaws
 pub mod ContentLaws
 pub mod BatchLaws
+pub mod PageLaws

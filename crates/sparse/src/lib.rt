@@ -9,7 +9,7 @@ ghost use lib.ListN.{length};
 ghost use Rattle.spec.specs.Set.{contains, rank, lookup, select, next};
 ghost use Rattle.spec.specs.Layout.{size, sparseData};
 ghost use Rattle.spec.specs.Reading.{contentOk};
-ghost use Rattle.words.specs.Part.{Of, placed, Inside, NeverFalls, InBlock, Batched};
+ghost use Rattle.words.specs.Part.{Of, placed, Inside, NeverFalls, InBlock, Batched, Paged};
 
 // Whether a place is in the block.
 pub fn contains(part: &[u8], place: u16) -> bool
@@ -133,6 +133,27 @@ pub fn batch(
         }
     }
     n
+}
+
+// Fills out with the rows of the block that begins at row base, from that with `from` rows of the block below it on.
+pub fn page(part: &[u8], base: u32, from: u32, out: &mut [u32])
+    requires { ⌜ (length (now part) ≡ 10240 → ⊥) ⌝ }
+    requires { ⌜ base + 65536 ≤ 2 ^ 32 ⌝ }
+    ensures { λ r. ⌜ Paged (now (part .entry)) base from (now (out .entry)) (now (out .exit)) ⌝ }
+{
+    let places = part.len() / 2;
+    let start = from as usize;
+    if places < start {
+        return;
+    }
+    if places - start < out.len() {
+        return;
+    }
+    let mut j = 0;
+    while j < out.len() {
+        out[j] = base + search::value_at_idx(part, start + j) as u32;
+        j += 1;
+    }
 }
 
 // A block has no more places than fit; of other bytes the lowest 32 bits.

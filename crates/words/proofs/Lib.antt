@@ -3,3 +3,5 @@ pub mod GroupLaws
 pub mod LeLaws
 pub mod StoreLaws
 pub mod FillLaws
+pub mod RowLaws
+pub mod FrontLaws

@@ -5,7 +5,7 @@ use mathlib.Core.Bool.{true}
 use mathlib.Core.List.{List, map, _++_}
 use mathlib.Core.Option.{Option, none, some}
 use lib.ListN.{length, drop, getD}
-use Rattle.spec.specs.Set.{rising, rank, hits}
+use Rattle.spec.specs.Set.{rising, rank, hits, page}
 use Rattle.spec.specs.Layout.{size, dataOf}
 use Rattle.words.specs.declared.Place.{Place}
 use Rattle.words.specs.declared.Place.the-variants.{At, Nothing}
@@ -44,3 +44,8 @@ pub record Batched (part qs : List ℕ) (base first : ℕ) (rows₀ ranks₀ row
   pub ranks-stay : drop n ranks ≡ drop n ranks₀
   pub exact : Of part (λ ps. let hs = hits (map (λ p. base + p) ps) qs in
       (n ≡ length hs) × (rows ≡ hs ++ drop n rows₀) × (ranks ≡ map (λ q. (first + rank q (map (λ p. base + p) ps)) % 2 ^ 32) hs ++ drop n ranks₀))
+
+-- a list filled with rows of one block, those from index `from` on: of the places that the part holds, where it has so many
+pub record Paged (part : List ℕ) (base from : ℕ) (out₀ out : List ℕ) : Type 0 where
+  pub long : length out ≡ length out₀
+  pub exact : Of part (λ ps. from + length out₀ ≤ length ps → out ≡ page from (length out₀) (map (λ p. base + p) ps))
