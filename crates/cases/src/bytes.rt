@@ -64,7 +64,7 @@ fn entry(name: &[u8], rows: u32, due: &[u8]) {
 
 // The last mini-block of a full block, whose running count is 65,472.
 pub fn mini_block() {
-    let last = dense::mini::DenseMiniBlock {
+    let last = mini::DenseMiniBlock {
         bitvec: 18446744073709551615,
         rank: 65472,
     };

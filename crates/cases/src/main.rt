@@ -1,11 +1,11 @@
 // The worked cases of document 01 that code can be asked for, a line each: what came, and whether it is what the document says.
 mod bytes;
+mod files;
 mod lines;
 mod set;
 
 use codes::NONE;
 use spec::Answer;
-use spec::Done;
 use spec::Found;
 use spec::Number;
 use spec::Refusal;
@@ -17,13 +17,15 @@ fn main() {
     questions();
     lookups();
     batch();
-    faults();
     refusals();
     c_numbers();
     bytes::row_counts();
     bytes::entries();
     bytes::mini_block();
     bytes::block();
+    files::short();
+    files::refused();
+    files::full();
 }
 
 // rank, select and next.
@@ -57,20 +59,6 @@ fn batch() {
     let n = set::lookup_batch(&P2, &questions, &mut hits, &mut ranks);
     lines::list(b"P9 batch 5 5 1 9, rows", &hits[..n], &[5, 5, 1]);
     lines::list(b"P9 batch 5 5 1 9, ranks", &ranks[..n], &[1, 1, 0]);
-}
-
-// Rows that are refused.
-fn faults() {
-    lines::answer(b"P11 rows 4 4 of 10", fault(10, &[4, 4]), NONE + 2);
-    lines::answer(b"P12 row 10 of 10", fault(10, &[10]), NONE + 3);
-}
-
-// The C number of the refusal, or 0 where the rows are fine.
-fn fault(row_count: u32, rows: &[u32]) -> u64 {
-    match writing::rows::fault(row_count, rows) {
-        Done::Yes => 0,
-        Done::Refused(e) => codes::of_number(Number::Refused(e)),
-    }
 }
 
 // The refusals' numbers.

@@ -15,9 +15,9 @@ use Rattle.spec.proofs.Rising.{Rising, rising-length, rising-append}
 use Rattle.spec.proofs.Questions.{rank-append, rank-low, rank-all}
 use Rattle.spec.proofs.Words.{bits-rising}
 use Rattle.spec.proofs.Content.{dense-rising}
-use Rattle.dense.specs.Mini.{MiniAt}
-use Rattle.dense.specs.declared.mini.DenseMiniBlock.{DenseMiniBlock}
-use Rattle.dense.proofs.BitLaws.{length-bits}
+use Rattle.mini.specs.Mini.{MiniAt}
+use Rattle.mini.specs.declared.DenseMiniBlock.{DenseMiniBlock}
+use Rattle.mini.proofs.BitLaws.{length-bits}
 
 -- ---- all below an end
 

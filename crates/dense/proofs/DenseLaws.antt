@@ -17,8 +17,8 @@ use Rattle.spec.proofs.Questions.{rank-le-sub}
 use Rattle.spec.proofs.Words.{word-lt}
 use Rattle.spec.proofs.Content.{length-mini, length-data, data-dense, data-sparse}
 use Rattle.words.specs.Part.{Holds, Of}
-use Rattle.dense.specs.Mini.{MiniAt}
-use Rattle.dense.specs.declared.mini.DenseMiniBlock.{DenseMiniBlock}
+use Rattle.mini.specs.Mini.{MiniAt}
+use Rattle.mini.specs.declared.DenseMiniBlock.{DenseMiniBlock}
 use Rattle.dense.proofs.PlaceLaws.{contains-place, rank-place}
 
 -- ---- mini-blocks one after another

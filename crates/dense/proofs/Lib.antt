@@ -1,7 +1,3 @@
-pub mod BitLaws
-pub mod LowestLaws
-pub mod MiniLaws
-pub mod GatherLaws
 pub mod PlaceLaws
 pub mod DenseLaws
 pub mod SelectLaws

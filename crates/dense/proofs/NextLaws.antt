@@ -14,7 +14,7 @@ use Rattle.spec.specs.Layout.{size}
 use Rattle.spec.specs.Reading.{bits, wordAt}
 use Rattle.spec.proofs.Questions.{next-past}
 use Rattle.words.specs.Part.{Of}
-use Rattle.dense.specs.Bits.{orNone}
+use Rattle.mini.specs.Bits.{orNone}
 use Rattle.dense.proofs.PlaceLaws.{next-place}
 use Rattle.dense.proofs.DenseLaws.{rises, stored-word}
 

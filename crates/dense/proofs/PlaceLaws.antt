@@ -17,8 +17,8 @@ use Rattle.spec.proofs.Tests.{by-test}
 use Rattle.spec.proofs.Rising.{Rising, rising-between}
 use Rattle.spec.proofs.Questions.{contains-member, member-contains, rank-is, rank-le, rank-low, rank-all, rank-select, rank-after, rank-below, rank-above, rank-lt, select-rank, next-select}
 use Rattle.spec.proofs.Words.{word-lt, bits-rising}
-use Rattle.dense.specs.Bits.{orNone}
-use Rattle.dense.proofs.BitLaws.{half-pow, contains-bit, length-bits}
+use Rattle.mini.specs.Bits.{orNone}
+use Rattle.mini.proofs.BitLaws.{half-pow, contains-bit, length-bits}
 
 -- ---- strictly increasing lists
 

@@ -13,8 +13,9 @@ use borrow.Author.Tests.{ltb-true, ltb-false}
 use Rattle.spec.proofs.Tests.{by-test}
 use Rattle.spec.proofs.Questions.{rank-low, rank-all, rank-mono, select-past}
 use Rattle.words.specs.Part.{Holds, Of}
-use Rattle.dense.specs.Mini.{MiniAt, LastMini}
-use Rattle.dense.specs.declared.mini.DenseMiniBlock.{DenseMiniBlock}
+use Rattle.mini.specs.Mini.{MiniAt}
+use Rattle.dense.specs.Mini.{LastMini}
+use Rattle.mini.specs.declared.DenseMiniBlock.{DenseMiniBlock}
 use Rattle.dense.proofs.PlaceLaws.{rank-ones, select-place}
 use Rattle.dense.proofs.DenseLaws.{rises, stored-word, stored-count}
 

@@ -11,8 +11,8 @@ use Rattle.spec.specs.Layout.{size, word, miniBlock, miniBlocks, denseData, byt
 use Rattle.spec.proofs.Rising.{Rising}
 use Rattle.spec.proofs.Questions.{rank-low, rank-all, rank-le-sub}
 use Rattle.spec.proofs.Content.{length-mini}
-use Rattle.dense.specs.Mini.{miniBytes, Gathers}
-use Rattle.dense.specs.declared.mini.Gathered.{Gathered}
+use Rattle.mini.specs.Mini.{miniBytes, Gathers}
+use Rattle.mini.specs.declared.Gathered.{Gathered}
 use Rattle.dense.proofs.PlaceLaws.{rank-ones}
 use Rattle.dense.proofs.DenseLaws.{minis-none, minis-last, mini-is}
 

@@ -1,8 +1,6 @@
 // A dense block: 1,024 mini-blocks of ten bytes, each a word of 64 bits and the number of the block's rows before it. Its questions
 // take its part of the file, 10,240 bytes. Of any such bytes they answer something safe, and of a block's data what its places say.
-pub mod bits;
-pub mod mini;
-
+use mini::bits;
 use words::Place;
 ghost use mathlib.Core.Path.{_≡_};
 ghost use mathlib.Core.Bool.{true};

@@ -1,9 +1,8 @@
 -- Filling a directory: pair by pair, and run by run.
 use Prim.Native.Nat.{ℕ, zero, suc, _+_, _-_, _*_, _≤_, _<_}
-use mathlib.Core.Path.{_≡_, refl, sym, ap, _∙_}
+use mathlib.Core.Path.{_≡_, refl, _∙_}
 use mathlib.Core.Bool.{true}
-use mathlib.Core.List.{List, [], _∷_, _++_}
-use native.Mathlib.Nat.{add-zero}
+use mathlib.Core.List.{List}
 use native.Mathlib.Numerals.{add-one}
 use native.Mathlib.Omega.{arith}
 use lib.ListN.{length, set, length-set}
@@ -11,6 +10,7 @@ use lib.Seq.{sets, length-sets}
 use Rattle.spec.specs.declared.Entry.{Entry}
 use Rattle.spec.specs.Reading.{blockCount, part, entryIn, entriesAt, entriesOk, dataSize}
 use Rattle.spec.proofs.Tests.{and-true}
+use Rattle.words.proofs.StoreLaws.{sets-append}
 use Rattle.judging.specs.Phases.{entryOk}
 use Rattle.judging.proofs.EntryLaws.{Walk, walk-some, walk-more, walk-all, Right, right, Small, small-more}
 use Rattle.opening.specs.Filling.{same}
@@ -43,12 +43,6 @@ module _ {d₀ : List ℕ} {from to rows bytes : ℕ} {d : List ℕ} {b : ℕ} (
 
 -- ---- run after run
 
-sets-append : (d : List ℕ) (i : ℕ) (xs ys : List ℕ) → sets d i (xs ++ ys) ≡ sets (sets d i xs) (i + length xs) ys
-sets-append d i [] ys = ap (λ k. sets d k ys) (sym (add-zero i))
-sets-append d i (x ∷ xs) ys =
-    let e : suc i + length xs ≡ i + suc (length xs) = omega arith in
-    sets-append (set d i x) (suc i) xs ys ∙ ap (λ k. sets (sets (set d i x) (suc i) xs) k ys) e
-
 -- the entries left are right behind block b, and their runs make of d what all make of d₀
 pub record Filling (d₀ file : List ℕ) (count : ℕ) (all d : List ℕ) (b rows bytes at left : ℕ) : Type 0 where
   pub entries : Walk (entriesOk count b) true file at left
@@ -78,13 +72,12 @@ module _ {d₀ file : List ℕ} {count : ℕ} {all d : List ℕ} {b rows bytes a
     fill-more n d′ q w =
         let run = same (x .number + 1 - b) rows bytes in
         let l = fill-right .from in
-        let to : 2 * (x .number + 1) ≡ 2 * b + length run = omega (arith, length-same (x .number + 1 - b) rows bytes) in
+        let to : 2 * b + length run ≡ 2 * (x .number + 1) = omega (arith, length-same (x .number + 1 - b) rows bytes) in
         let m = f .entries .within in
         rw (q, w) (record {
           entries = record { within = omega arith; same = rw (add-one (x .number)) (first .1) };
           small = fill-small;
           long = length-sets d (2 * b) run ∙ f .long;
           runs′ = walk-more (f .runs′) _ x h e (λ es.
-              sets-append d (2 * b) run (runs (blockCount count) (x .number + 1) (rows + x .rows) (bytes + dataSize (x .rows)) es)
-              ∙ ap (λ k. sets (sets d (2 * b) run) k (runs (blockCount count) (x .number + 1) (rows + x .rows) (bytes + dataSize (x .rows)) es)) (sym to));
+              sets-append run (runs (blockCount count) (x .number + 1) (rows + x .rows) (bytes + dataSize (x .rows)) es) d (2 * b) (2 * (x .number + 1)) to);
         })

@@ -1,3 +1,4 @@
 pub mod PairLaws
 pub mod FillLaws
 pub mod OpenLaws
+pub mod CallLaws

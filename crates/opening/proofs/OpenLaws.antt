@@ -3,17 +3,17 @@ use Prim.Native.Nat.{ℕ, _+_, _-_, _*_, _≤_, _<_}
 use mathlib.Core.Path.{_≡_, refl, sym, ap, ap₂, _∙_}
 use mathlib.Core.Bool.{true}
 use mathlib.Core.List.{List, _++_}
-use native.Mathlib.Nat.{zero-add}
 use native.Mathlib.Omega.{arith}
 use borrow.Author.Tests.{lt-ltb, le-ltb}
 use lib.ListN.{length, drop}
-use lib.Seq.{sets, sets-eq}
+use lib.Seq.{sets}
 use Rattle.spec.specs.declared.Record.{Record}
 use Rattle.spec.specs.Reading.{AreBytes, Verdict, fault, holds, verdict, entriesOk, entryCount, entriesOf, recordOf, blockCount, directoryOf, directoryLength}
 use Rattle.spec.specs.Answers.{value, refused, sayOpen, OpenOwes, directoryIn}
 use Rattle.spec.proofs.Promises.{length-directory}
 use Rattle.spec.proofs.Accepted.{entries-ok}
 use Rattle.spec.proofs.Written.{was-written}
+use Rattle.words.proofs.StoreLaws.{sets-front}
 use Rattle.judging.specs.Phases.{judged}
 use Rattle.judging.proofs.EntryLaws.{small-none}
 use Rattle.opening.specs.Filling.{Accepts}
@@ -55,7 +55,7 @@ module _ (file directory : List ℕ) (count : ℕ) (a : Accepts file count) wher
   owes-index rec r l =
       let d = directoryOf count (a .blocks) in
       let filled : sets directory 0 d ≡ d ++ drop (length d) directory =
-      sets-eq d directory 0 (omega (arith, length-directory count (a .blocks))) ∙ ap (λ k. d ++ drop k directory) (zero-add (length d)) in
+      sets-front d directory (omega (arith, length-directory count (a .blocks))) in
       rw (a .verdict′, le-ltb (length directory) (directoryLength count) l) (ap₂ (λ r l. (value r, l)) r filled)
 
 -- ---- what an accepted file has

@@ -13,12 +13,12 @@ use Rattle.spec.proofs.Tests.{by-test}
 use Rattle.spec.proofs.Rising.{rising-facts}
 use Rattle.spec.proofs.Questions.{rank-below}
 use Rattle.words.specs.Part.{NeverFalls, InBlock, Batched}
-use Rattle.sparse.specs.Search.{placesSaid, answer, indexOf, AllBelow, Finds}
-use Rattle.sparse.specs.declared.Search.{Search}
-use Rattle.sparse.specs.declared.Search.the-variants.{Found, Insert}
+use Rattle.search.specs.Search.{placesSaid, answer, indexOf, AllBelow, Finds}
+use Rattle.search.specs.declared.Search.{Search}
+use Rattle.search.specs.declared.Search.the-variants.{Found, Insert}
 use Rattle.sparse.proofs.PlaceLaws.{held}
-use Rattle.sparse.proofs.SearchLaws.{answer-found, answer-insert}
-use Rattle.sparse.proofs.FillLaws.{Filling, filling-none, filling-hit, filling-miss, filling-all}
+use Rattle.search.proofs.SearchLaws.{answer-found, answer-insert}
+use Rattle.words.proofs.FillLaws.{Filling, filling-none, filling-hit, filling-miss, filling-all}
 
 -- ---- the rows of a block that begins at row base
 

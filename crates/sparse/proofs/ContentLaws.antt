@@ -15,8 +15,8 @@ use Rattle.spec.specs.Reading.{contentOk}
 use Rattle.spec.specs.Reading as reading
 use Rattle.spec.proofs.Tests.{by-test}
 use Rattle.spec.proofs.Bytes.{length-bytes}
-use Rattle.sparse.specs.Search.{placesSaid}
-use Rattle.sparse.proofs.PlaceLaws.{length-places}
+use Rattle.search.specs.Search.{placesSaid}
+use Rattle.search.proofs.PlaceLaws.{length-places}
 
 -- ---- checking
 

@@ -13,11 +13,12 @@ use Rattle.spec.proofs.Tests.{by-test}
 use Rattle.spec.proofs.Rising.{rising-facts, rising-length}
 use Rattle.spec.proofs.Questions.{rank-le, next-select}
 use Rattle.words.specs.Part.{Holds}
-use Rattle.sparse.specs.Search.{placesSaid, answer, indexOf, Finds}
-use Rattle.sparse.specs.declared.Search.{Search}
-use Rattle.sparse.specs.declared.Search.the-variants.{Found, Insert}
-use Rattle.sparse.proofs.PlaceLaws.{length-places, held}
-use Rattle.sparse.proofs.SearchLaws.{answer-found, answer-insert}
+use Rattle.search.specs.Search.{placesSaid, answer, indexOf, Finds}
+use Rattle.search.specs.declared.Search.{Search}
+use Rattle.search.specs.declared.Search.the-variants.{Found, Insert}
+use Rattle.search.proofs.PlaceLaws.{length-places}
+use Rattle.sparse.proofs.PlaceLaws.{held}
+use Rattle.search.proofs.SearchLaws.{answer-found, answer-insert}
 
 module _ {bs : List ℕ} {t : ℕ} {r : Search} (sparse : length bs ≡ 10240 → ⊥) (f : Finds bs t 0 r) (ps : List ℕ) (d : Holds bs ps) where
   says : r ≡ answer t ps

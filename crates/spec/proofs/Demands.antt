@@ -1,24 +1,17 @@
 -- Opening accepts exactly the strings that writing gives, and recovers row count and set.
 use Prim.Native.Nat.{ℕ, _*_, _≤_}
 use mathlib.Core.Path.{_≡_, sym, ap, _∙_}
-use mathlib.Core.Bool.{true}
 use mathlib.Core.List.{List, [], _∷_, map}
 use native.Mathlib.Omega.{arith}
 use lib.ListN.{length}
-use Rattle.spec.specs.Set.{rising}
-use Rattle.spec.specs.Layout.{Block, blocks, rowsOf, dense, written, fileOf}
-use Rattle.spec.specs.Reading.{limit, AreBytes, Head, dataSize, dataSizes, holds, verdict}
-use Rattle.spec.proofs.Tests.{by-test}
+use Rattle.spec.specs.Layout.{Block, blocks, rowsOf, written, fileOf}
+use Rattle.spec.specs.Reading.{Permitted, AreBytes, Head, dataSizes, holds, verdict}
 use Rattle.spec.proofs.Rising.{rising-facts, rising-true}
 use Rattle.spec.proofs.RowCount.{groups-length, headOf}
 use Rattle.spec.proofs.Blocks.{rows-blocks, blocks-rows, well-blocks, well-rows, well-length}
+use Rattle.spec.proofs.Content.{size-le}
 use Rattle.spec.proofs.Accepted.{entryFor, length-written, accepted}
 use Rattle.spec.proofs.Written.{was-written}
-
--- strictly increasing rows below a permitted row count
-pub record Permitted (count : ℕ) (rows : List ℕ) : Type 0 where
-  pub limited : count ≤ limit
-  pub rises : rising 0 count rows ≡ true
 
 -- what is written is accepted, with its row count and its blocks, and the rows of these are the set
 pub written-accepted : (count : ℕ) (rows : List ℕ) → Permitted count rows
@@ -51,13 +44,10 @@ written-one c d xs ys p q e =
 
 -- ---- the longest file has 671,340,547 bytes
 
-data-size-le : (n : ℕ) → dataSize n ≤ 10240
-data-size-le n = by-test (dense n) (λ e. rw e (omega arith)) (λ e. rw e (omega (arith, borrow.Author.Tests.leb-false 5120 n e)))
-
 data-sizes-le : (gs : List Block) → dataSizes (map entryFor gs) ≤ 10240 * length gs
 unfolding dataSizes
 data-sizes-le [] = omega arith
-data-sizes-le (g ∷ gs) = let i = data-sizes-le gs in let j = data-size-le (length (g .places)) in omega arith
+data-sizes-le (g ∷ gs) = let i = data-sizes-le gs in let j = size-le (length (g .places)) in omega arith
 
 pub longest : (count : ℕ) (rows : List ℕ) → Permitted count rows → length (fileOf count rows) ≤ 671340547
 unfolding fileOf

@@ -58,26 +58,26 @@ unfolding sayWrite
 write-rows count room rows h = rw (lt-ltb limit count h)
 
 module _ (count room : ℕ) (small : count ≤ 4294901760) where
-  faulty : (k : ℕ) (rows : List ℕ) → rowFault count 0 rows ≡ some k → sayWrite count rows room ≡ refused k
+  pub write-fault : (k : ℕ) (rows : List ℕ) → rowFault count 0 rows ≡ some k → sayWrite count rows room ≡ refused k
   unfolding sayWrite
-  faulty k rows e = rw (le-ltb limit count small, e)
+  write-fault k rows e = rw (le-ltb limit count small, e)
 
   -- 2: the first faulty row is not larger than the one before
   pub write-order : (p r : ℕ) (ps rs : List ℕ) → Rising 0 count (ps ++ (p ∷ [])) → r ≤ p
       → sayWrite count (ps ++ (p ∷ r ∷ rs)) room ≡ refused 2
   unfolding rowFault
-  write-order p r ps rs f h = faulty 2 (ps ++ (p ∷ r ∷ rs)) (fault-after count 0 p ps (r ∷ rs) f ∙ rw (lt-ltb r (suc p) (omega arith)))
+  write-order p r ps rs f h = write-fault 2 (ps ++ (p ∷ r ∷ rs)) (fault-after count 0 p ps (r ∷ rs) f ∙ rw (lt-ltb r (suc p) (omega arith)))
 
   -- 3: it is larger, or the first, but at or past the row count
   pub write-range : (p r : ℕ) (ps rs : List ℕ) → Rising 0 count (ps ++ (p ∷ [])) → p < r → count ≤ r
       → sayWrite count (ps ++ (p ∷ r ∷ rs)) room ≡ refused 3
   unfolding rowFault
   write-range p r ps rs f h l =
-      faulty 3 (ps ++ (p ∷ r ∷ rs)) (fault-after count 0 p ps (r ∷ rs) f ∙ rw (le-ltb r (suc p) h, le-leb count r l))
+      write-fault 3 (ps ++ (p ∷ r ∷ rs)) (fault-after count 0 p ps (r ∷ rs) f ∙ rw (le-ltb r (suc p) h, le-leb count r l))
 
   pub write-range-first : (r : ℕ) (rs : List ℕ) → count ≤ r → sayWrite count (r ∷ rs) room ≡ refused 3
   unfolding rowFault
-  write-range-first r rs l = faulty 3 (r ∷ rs) (rw (le-ltb r 0 (omega arith), le-leb count r l))
+  write-range-first r rs l = write-fault 3 (r ∷ rs) (rw (le-ltb r 0 (omega arith), le-leb count r l))
 
   -- 4: no row is faulty, and the output is shorter than the file
   pub write-room : (rows : List ℕ) → Rising 0 count rows → room < length (fileOf count rows) → sayWrite count rows room ≡ refused 4

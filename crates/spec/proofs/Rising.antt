@@ -4,7 +4,7 @@ use mathlib.Core.Path.{_≡_, refl}
 use mathlib.Core.Bool.{true, _&&_}
 use mathlib.Core.List.{List, [], _∷_, _++_}
 use native.Mathlib.Omega.{arith}
-use lib.ListN.{length, getD}
+use lib.ListN.{length, getD, take, drop}
 use lib.Dec.{leb, ltb}
 use borrow.Author.Tests.{leb-true, ltb-true, le-leb, lt-ltb}
 use Rattle.spec.specs.Set.{rising, select}
@@ -50,6 +50,18 @@ rising-widen low end end′ (x ∷ xs) h r = (r .0, omega arith, rising-widen (s
 pub rising-append : (low mid end : ℕ) (xs ys : List ℕ) → low ≤ mid → mid ≤ end → Rising low mid xs → Rising mid end ys → Rising low end (xs ++ ys)
 rising-append low mid end [] ys h l r s = rising-lower low mid end ys h s
 rising-append low mid end (x ∷ xs) ys h l r s = (r .0, omega arith, rising-append (suc x) mid end xs ys (r .1) l (r .2) s)
+
+-- ---- a front and a rest
+
+pub rising-take : (n low end : ℕ) (xs : List ℕ) → Rising low end xs → Rising low end (take n xs)
+rising-take zero low end xs r = tt
+rising-take (suc n) low end [] r = tt
+rising-take (suc n) low end (x ∷ xs) r = (r .0, r .1, rising-take n (suc x) end xs (r .2))
+
+pub rising-drop : (n low end : ℕ) (xs : List ℕ) → Rising low end xs → Rising low end (drop n xs)
+rising-drop zero low end xs r = r
+rising-drop (suc n) low end [] r = tt
+rising-drop (suc n) low end (x ∷ xs) r = rising-lower low (suc x) end (drop n xs) (omega (arith, r .0)) (rising-drop n (suc x) end xs (r .2))
 
 -- ---- members by their place
 

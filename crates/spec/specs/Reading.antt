@@ -1,5 +1,5 @@
 -- Reading a file: the verdict of opening, and the record and the directory that opening gives.
-use Prim.Native.Nat.{ℕ, zero, suc, _+_, _-_, _*_, _/_, _%_, _<_, min}
+use Prim.Native.Nat.{ℕ, zero, suc, _+_, _-_, _*_, _/_, _%_, _≤_, _<_, min}
 use mathlib.Core.Path.{_≡_}
 use mathlib.Core.Bool.{Bool, true, not, _&&_, cond}
 use mathlib.Core.List.{List, [], _∷_, _++_}
@@ -16,6 +16,11 @@ use Rattle.spec.specs.Layout.{size, dense, Block, rowsOf}
 -- 65,535 blocks of 65,536 rows
 abbrev pub limit : ℕ
 limit = 4294901760
+
+-- what may be written: strictly increasing rows below a permitted row count
+pub record Permitted (count : ℕ) (rows : List ℕ) : Type 0 where
+  pub limited : count ≤ limit
+  pub rises : rising 0 count rows ≡ true
 
 -- B: the row count divided by 65,536, rounded up
 abbrev pub blockCount : ℕ → ℕ

@@ -1,4 +1,4 @@
--- The turns of the loops over a number's bytes: one byte more is read, one byte more is written.
+-- The turns of the loops over bytes: one byte more is read, written or copied.
 use Prim.Native.Nat.{ℕ, suc, _+_, _-_, _*_, _/_, _%_, _^_, _≤_, _<_}
 use mathlib.Core.Path.{_≡_}
 use mathlib.Core.List.{List, _∷_}
@@ -35,3 +35,10 @@ write-turn d e i w k n l h =
     let one : w - k ≡ suc (w - (k + 1)) = omega arith in
     let next : i + (k + 1) ≡ suc (i + k) = omega arith in
     rw next (rw one at h)
+
+pub copy-turn : (s d e : List ℕ) (a b w k : ℕ) → k < w → a + w ≤ length s → sets d (b + k) (part (a + k) (a + w) s) ≡ e
+    → sets (set d (b + k) (getD s (a + k) 0)) (b + (k + 1)) (part (a + (k + 1)) (a + w) s) ≡ e
+copy-turn s d e a b w k l h q =
+    let next : a + (k + 1) ≡ suc (a + k) = omega arith in
+    let place : b + (k + 1) ≡ suc (b + k) = omega arith in
+    rw (next, place) (rw (part-first (a + k) (a + w) s (omega arith) (omega arith)) at q)

@@ -1,3 +1,3 @@
-pub mod RowLaws
-pub mod RunLaws
-pub mod MeasureLaws
+pub mod PutLaws
+pub mod FileLaws
+pub mod CallLaws

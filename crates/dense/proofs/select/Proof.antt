@@ -6,7 +6,7 @@ use lib.Count.{ones-le}
 use Rattle.spec.specs.Reading.{bits}
 use Rattle.spec.proofs.Rising.{rising-between}
 use Rattle.spec.proofs.Words.{bits-rising}
-use Rattle.dense.proofs.BitLaws.{length-bits}
+use Rattle.mini.proofs.BitLaws.{length-bits}
 use Rattle.dense.proofs.SelectLaws.{selected, selects-none}
 use borrow.Author.Needs.{needs}
 use Rattle.dense.proofs.select.Statement.{statement}

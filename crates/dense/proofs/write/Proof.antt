@@ -6,7 +6,7 @@ use lib.Count.{ones-le}
 use Rattle.spec.specs.Layout.{size}
 use Rattle.spec.proofs.Rising.{rising-facts}
 use native.Mathlib.Omega.{arith}
-use Rattle.dense.specs.Mini.{places}
+use Rattle.mini.specs.Mini.{places}
 use Rattle.dense.proofs.WriteLaws.{Filling, none-filled, count-small, one-filled, at-last, all-filled}
 use Rattle.dense.proofs.write.Statement.{statement}
 use Rattle.dense.proofs.write.Tie as tie

@@ -4,7 +4,7 @@ use mathlib.Core.Path.{refl, ap}
 use native.Mathlib.Omega.{arith}
 use borrow.Author.Needs.{needs}
 use lib.ListN.{length}
-use Rattle.sparse.specs.Search.{indexOf}
+use Rattle.search.specs.Search.{indexOf}
 use Rattle.sparse.proofs.BatchLaws.{Asking, asking-none, asking-hit, asking-miss, asking-all}
 use Rattle.sparse.proofs.batch.Statement.{statement}
 use Rattle.sparse.proofs.batch.Tie as tie

@@ -3,7 +3,7 @@ use mathlib.Core.Path.{sym, ap, _∙_}
 use mathlib.Core.Option.{some}
 use borrow.Author.Needs.{needs}
 use Rattle.spec.proofs.Questions.{lookup-member, lookup-absent}
-use Rattle.sparse.specs.Search.{indexOf}
+use Rattle.search.specs.Search.{indexOf}
 use Rattle.sparse.proofs.QuestionLaws.{rank-says, found-there, insert-absent}
 use Rattle.sparse.proofs.lookup.Statement.{statement}
 use Rattle.sparse.proofs.lookup.Tie as tie

@@ -4,7 +4,8 @@ use native.Mathlib.Omega.{arith}
 use borrow.Author.Needs.{needs}
 use lib.ListN.{length, getD}
 use Rattle.spec.proofs.Questions.{select-past}
-use Rattle.sparse.proofs.PlaceLaws.{length-places, held}
+use Rattle.search.proofs.PlaceLaws.{length-places}
+use Rattle.sparse.proofs.PlaceLaws.{held}
 use Rattle.sparse.proofs.select.Statement.{statement}
 use Rattle.sparse.proofs.select.Tie as tie
 
