@@ -18,7 +18,7 @@ use Rattle.judging.proofs.EntryLaws.{Walk, walk-some, walk-more, walk-a
 
 -- ---- block after block
 
--- the contents left, whose data begin at `here` and end at `stop`, are good if all are
+-- what the contents left say, whose data begin at `here` and end at `stop`, is what all say
 pub record Checking (file : List ℕ) (count : ℕ) (good : Bool) (stop here at left : ℕ) : Type 0 where
   pub walk : Walk (λ es. contentsOk count es here file) good file at left
   pub ends : Walk (λ es. here + dataSizes es) stop file at left
@@ -55,7 +55,7 @@ module _ {file : List ℕ} {count : ℕ} {good : Bool} {stop here at left : ℕ}
 
 -- ---- as many rows as the entries say
 
-pub content-many : (n end : ℕ) (bs : List ℕ) → contentOk n end bs ≡ true → length (placesIn n bs) ≡ n
+content-many : (n end : ℕ) (bs : List ℕ) → contentOk n end bs ≡ true → length (placesIn n bs) ≡ n
 unfolding contentOk
 content-many n end bs e =
     let ps = placesIn n bs in

@@ -76,11 +76,11 @@ right count low x e =
     record { from = leb-true _ _ (q .0); inside = ltb-true _ _ (q .1); few = leb-true _ _ (p .1) }
 
 module _ (count low rows bytes : ℕ) (x : Entry) (es : List Entry) where
-  pub totals-wrong : entryOk count low x ≡ false → totalsFrom count low rows bytes (x ∷ es) ≡ Wrong
+  totals-wrong : entryOk count low x ≡ false → totalsFrom count low rows bytes (x ∷ es) ≡ Wrong
   unfolding totalsFrom entriesOk
   totals-wrong e = rw e
 
-  pub totals-more : entryOk count low x ≡ true
+  totals-more : entryOk count low x ≡ true
       → totalsFrom count low rows bytes (x ∷ es) ≡ totalsFrom count (x .number + 1) (rows + x .rows) (bytes + dataSize (x .rows)) es
   unfolding totalsFrom entriesOk rowSum dataSizes
   totals-more e = rw (e, add-one (x .number), add-assoc rows (x .rows) (rowSum es), add-assoc bytes (dataSize (x .rows)) (dataSizes es))

@@ -71,12 +71,12 @@ module _ (file : List ℕ) where
 
 -- ---- the entries' sums
 
-pub wrong-entries : (count : ℕ) (es : List Entry) → Wrong ≡ totals count es → entriesOk count 0 es ≡ false
+wrong-entries : (count : ℕ) (es : List Entry) → Wrong ≡ totals count es → entriesOk count 0 es ≡ false
 unfolding totalsFrom
 wrong-entries count es e =
     by-test (entriesOk count 0 es) (λ o. let r = rw o at e in absurd (let z : _≡_ {A = ℕ} 0 1 = cc in omega arith)) (λ o. o)
 
-pub right-sums : (count rows bytes : ℕ) (es : List Entry) → Sums rows bytes ≡ totals count es → (entriesOk count 0 es ≡ true) × (rows ≡ rowSum es) × (bytes ≡ dataSizes es)
+right-sums : (count rows bytes : ℕ) (es : List Entry) → Sums rows bytes ≡ totals count es → (entriesOk count 0 es ≡ true) × (rows ≡ rowSum es) × (bytes ≡ dataSizes es)
 unfolding totalsFrom
 right-sums count rows bytes es e =
     by-test (entriesOk count 0 es)
@@ -90,18 +90,18 @@ right-sums count rows bytes es e =
 pub entry-count : (file : List ℕ) (n : ℕ) → 2 ≤ length file → n ≡ numberIn (part (length file - 2) (length file - 2 + 2) file) → n ≡ entryCount file
 entry-count file n h e = let l : length file - 2 + 2 ≡ length file = omega arith in e ∙ ap (λ to. numberIn (part (length file - 2) to file)) l
 
-pub says-overlap : (file : List ℕ) (h : R.Head) (n : ℕ) → Headed file h → n ≡ entryCount file → length file - 2 < h .start + 4 * n → refused 6 ≡ judged (verdict file)
+pub says-overlap : (file : List ℕ) (h : R.Head) (n : ℕ) → Headed file h → n ≡ entryCount file → length file < h .start + 4 * n + 2 → refused 6 ≡ judged (verdict file)
 says-overlap file h n hd q l = rw (overlap-6 file h (hd .read) (hd .unpadded) (hd .limited) (omega (arith, q)))
 
 -- they fit behind the row count
 pub record Fitting (file : List ℕ) (h : R.Head) (n : ℕ) : Type 0 where
   pub head : Headed file h
   pub many : n ≡ entryCount file
-  pub room : h .start + 4 * n ≤ length file - 2
+  pub room : h .start + 4 * n + 2 ≤ length file
 
 module _ {file : List ℕ} {h : R.Head} {n : ℕ} (f : Fitting file h n) where
   fits : h .start + 4 * entryCount file + 2 ≤ length file
-  fits = omega (arith, f .many, f .room, f .head .upto)
+  fits = omega (arith, f .many, f .room)
 
   same : entriesAt n (length file - 2 - 4 * n) file ≡ entriesOf file
   same = ap (λ k. entriesAt k (length file - 2 - 4 * k) file) (f .many)

@@ -31,7 +31,7 @@ fn judge_blocks(bytes: &[u8], row_count: u32, start: usize) -> Opened
 {
     let end = bytes.len() - 2;
     let number = words::le::u16_at(bytes, end) as usize;
-    if end < start + 4 * number {
+    if bytes.len() < start + 4 * number + 2 {
         return Opened::Refused(Refusal::Entries);
     }
     let from = end - 4 * number;
@@ -44,10 +44,11 @@ fn judge_blocks(bytes: &[u8], row_count: u32, start: usize) -> Opened
             if !contents::all_ok(bytes, start, from, number, row_count) {
                 return Opened::Refused(Refusal::Content);
             }
+            let data_start = start as u32;
             Opened::Index(Record {
                 row_count,
                 populated: rows,
-                data_start: start as u32,
+                data_start,
             })
         }
     }

@@ -8,7 +8,7 @@ use borrow.Author.Tests.{lt-ltb, le-ltb}
 use lib.ListN.{length, drop}
 use lib.Seq.{sets}
 use Rattle.spec.specs.declared.Record.{Record}
-use Rattle.spec.specs.Reading.{limit, AreBytes, Verdict, fault, holds, verdict, entriesOk, entryCount, entriesOf, recordOf, blockCount, directoryOf, directoryLength}
+use Rattle.spec.specs.Reading.{AreBytes, Verdict, fault, holds, verdict, entriesOk, entryCount, entriesOf, recordOf, blockCount, directoryOf, directoryLength}
 use Rattle.spec.specs.Answers.{value, refused, sayOpen, OpenOwes, directoryIn}
 use Rattle.spec.proofs.Promises.{length-directory}
 use Rattle.spec.proofs.Accepted.{entries-ok}
@@ -61,7 +61,6 @@ module _ (file directory : List ℕ) (count : ℕ) (a : Accepts file count) wher
 -- ---- what an accepted file has
 
 pub record Filled (file : List ℕ) (count : ℕ) : Type 0 where
-  pub limited : count ≤ limit
   pub fits : 4 * entryCount file + 2 ≤ length file
   pub right : entriesOk count 0 (entriesOf file) ≡ true
   pub runs′ : runs (blockCount count) 0 0 0 (entriesOf file) ≡ directoryIn (verdict file)
@@ -70,7 +69,6 @@ pub filled : (file : List ℕ) (count : ℕ) → AreBytes file → Accepts file 
 filled file count y a =
     let w = was-written file _ (a .blocks) y (a .verdict′) in
     record {
-      limited = w .limited;
       fits = w .fits;
       right = ap (entriesOk count 0) (w .entries′) ∙ entries-ok count 0 (a .blocks) (w .well);
       runs′ = ap (runs (blockCount count) 0 0 0) (w .entries′) ∙ sym (directory-runs count (a .blocks) (w .well)) ∙ sym (ap directoryIn (a .verdict′));

@@ -25,13 +25,16 @@ counted c = entry-count (c .before .before .args .bytes .now) _ (omega (arith, h
 add-if1 : tie.Need-add-if1
 add-if1 c = omega (arith, head (c .before) .short)
 
+add-if1-2 : tie.Need-add-if1-2
+add-if1-2 c = omega (arith, head (c .before) .short)
+
 returns : tie.Need-returns
-returns c = says-overlap _ _ _ (head (c .before .before)) (counted (c .before)) (c .if1 .taken)
+returns c = says-overlap _ _ _ (head (c .before .before)) (counted (c .before)) (omega arith)
 
 -- they fit
 fitting : (c : tie.Else1)
     → Fitting (c .before .before .before .args .bytes .now) (record { count = c .before .before .before .args .row-count; start = c .before .before .before .args .start }) (c .before .u16-at .result)
-fitting c = record { head = head (c .before .before); many = counted (c .before); room = c .if1 .left }
+fitting c = record { head = head (c .before .before); many = counted (c .before); room = omega arith }
 
 add-up-requires : tie.Need-add-up-requires
 add-up-requires c κs = omega (arith, head (c .before .before) .upto)
@@ -45,22 +48,22 @@ summed : (c : tie.After-known-told) → let k = c .before .before .before .befor
 summed c = let a = c .before .before .before in record { fitting = fitting (a .before); sums = sym (c .before .rows .given .1) ∙ a .add-up .ensures }
 
 returns-2 : tie.Need-returns-2
-returns-2 c = says-length (summed (c .before)) (c .if2 .taken)
+returns-2 c = says-length (summed (c .before)) (λ e. omega arith)
 
 all-ok-requires : tie.Need-all-ok-requires
-all-ok-requires c κs = let s = summed (c .before) in (omega (arith, s .fitting .room, s .fitting .head .upto), data-within s (c .if2 .left))
+all-ok-requires c κs = let s = summed (c .before) in (omega (arith, s .fitting .room), data-within s (omega arith))
 
 returns-3 : tie.Need-returns-3
-returns-3 c = let s = c .before .before in says-content (summed (s .before)) (s .if2 .left) _ (c .before .all-ok .ensures) (not-true _ (c .if3 .taken))
+returns-3 c = let s = c .before .before in says-content (summed (s .before)) (omega arith) _ (c .before .all-ok .ensures) (not-true _ (c .if3 .taken))
 
-cast-t22 : tie.Need-cast-t22
-cast-t22 c = let s = summed (c .before .before .before) in omega (arith, s .fitting .head .short)
+cast-data-start : tie.Need-cast-data-start
+cast-data-start c = let s = summed (c .before .before .before) in omega (arith, s .fitting .head .short)
 
 returns-5 : tie.Need-returns-5
-returns-5 c = let s = c .before .before in says-record (summed (s .before)) (s .if2 .left) _ (c .before .all-ok .ensures) (not-false _ (c .if3 .left))
+returns-5 c = let s = c .before .before in says-record (summed (s .before)) (omega arith) _ (c .before .all-ok .ensures) (not-false _ (c .if3 .left))
 
 pub judge-blocks-spec : {M : Type 1} → statement M
 judge-blocks-spec =
     tie.close
-    (tie.spec sub-end u16-at-requires (λ c. search needs) (λ c. search needs) add-if1 returns (λ c. search needs) (λ c. search needs) add-up-requires
-    (λ c. search needs) (λ c. search needs) (λ c. search needs) returns-2 all-ok-requires returns-3 cast-t22 returns-4 returns-5)
+    (tie.spec sub-end u16-at-requires (λ c. search needs) (λ c. search needs) add-if1 add-if1-2 returns (λ c. search needs) (λ c. search needs) add-up-requires
+    (λ c. search needs) (λ c. search needs) (λ c. search needs) returns-2 all-ok-requires returns-3 cast-data-start returns-4 returns-5)

@@ -44,7 +44,7 @@ loop-holds c = fill-start _ _ _ _ (has (c .before .before)) (counted c)
 entry-at-requires : tie.Need-entry-at-requires Inv-loop μ-loop
 entry-at-requires c κs = omega (arith, c .before .loop .inv .entries .within)
 
--- the entry is right, and the sums with it are small
+-- the entry is right
 next : (c : tie.After-entry-at Inv-loop μ-loop)
     → Right (c .before .before .before .before .before .before .args .row-count) (c .before .before .loop .block) (c .entry-at .result)
 next c = fill-right (c .before .before .loop .inv) (c .entry-at .result) (omega arith) (c .entry-at .ensures)
@@ -59,14 +59,14 @@ add-rows : tie.Need-add-rows Inv-loop μ-loop
 add-rows c =
     let x = c .before .before .before .before .before .before in
     let s = fill-small (x .before .before .loop .inv) (x .entry-at .result) (omega arith) (x .entry-at .ensures) in
-    omega (arith, s .few, has (x .before .before .before .before .before) .limited)
+    omega (arith, s .few)
 
--- the data bytes stay below 65,535 blocks of 10,240
-few : (c : tie.After-data-size Inv-loop μ-loop) → c .before .before .before .before .before .before .before .before .before .before .loop .size + c .data-size .result ≤ 671078400
+-- the data bytes are those of 65,536 full blocks at most
+few : (c : tie.After-data-size Inv-loop μ-loop) → c .before .before .before .before .before .before .before .before .before .before .loop .size + c .data-size .result ≤ 671088640
 few c =
     let x = c .before .before .before .before .before .before .before .before in
     let s = fill-small (x .before .before .loop .inv) (x .entry-at .result) (omega arith) (x .entry-at .ensures) in
-    omega (arith, s .bytes′, s .blocks, c .data-size .ensures, has (x .before .before .before .before .before) .limited)
+    omega (arith, s .bytes′, s .blocks, c .data-size .ensures)
 
 loop-again : tie.Need-loop-again Inv-loop μ-loop
 loop-again c =
