@@ -2,3 +2,4 @@ pub mod WalkLaws
 pub mod SpotLaws
 pub mod AnswerLaws
 pub mod OnceLaws
+pub mod CallLaws
