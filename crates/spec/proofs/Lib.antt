@@ -22,3 +22,4 @@ pub mod Directory
 pub mod Cases
 pub mod Calls
 pub mod WrongBuilds
+pub mod House
