@@ -89,11 +89,11 @@ pub fn next(bytes: &[u8], directory: &[u32], record: Record, row: u32) -> Found
     match blocks::next(part, (row % 65536) as u16) {
         Place::At(place) => Found::At(65536 * block + place),
         Place::Nothing => {
-            let rank = directory[2 * block as usize + 2];
-            if record.populated <= rank {
+            let end = directory[2 * block as usize + 2];
+            if record.populated <= end {
                 return Found::Nothing;
             }
-            Found::At(parts::member(bytes, directory, record, rank))
+            Found::At(parts::member(bytes, directory, record, end))
         }
     }
 }

@@ -34,8 +34,8 @@ add-t18 c =
     let small : b .place .given .0 .0 < 65536 = rw (b .place .given .1) at (b .before .before .next .ensures .0) in
     omega arith
 
-shared-slice-read-rank : tie.Need-shared-slice-read-rank
-shared-slice-read-rank c =
+shared-slice-read-end : tie.Need-shared-slice-read-end
+shared-slice-read-end c =
     let k = c .before .before .before .before .before in
     let s = k .before .before in
     omega (arith, words-there _ _ _ (bytes s) (sound s) _ (k .if2 .left))
@@ -72,4 +72,4 @@ returns-5 c =
 pub next-spec : {M : Type 1} → statement M
 next-spec =
     tie.close
-    (tie.spec (λ c κs. search needs) returns returns-2 (λ c. search needs) part-requires (λ c. search needs) (λ c κs. search needs) (λ c. search needs) (λ c. search needs) add-t18 (λ c. search needs) (λ c. search needs) (λ c. search needs) (λ c. search needs) (λ c. search needs) shared-slice-read-rank returns-3 member-requires returns-4 returns-5)
+    (tie.spec (λ c κs. search needs) returns returns-2 (λ c. search needs) part-requires (λ c. search needs) (λ c κs. search needs) (λ c. search needs) (λ c. search needs) add-t18 (λ c. search needs) (λ c. search needs) (λ c. search needs) (λ c. search needs) (λ c. search needs) shared-slice-read-end returns-3 member-requires returns-4 returns-5)
