@@ -16,19 +16,19 @@ use Rattle.search.specs.declared.Search.the-variants.{Found, Insert}
 use Rattle.sparse.proofs.PlaceLaws.{held}
 use Rattle.search.proofs.SearchLaws.{answer-found, answer-insert}
 use Rattle.words.proofs.RowLaws.{rowsFrom, row-contains, row-rank}
-use Rattle.words.proofs.FillLaws.{Filling, filling-none, filling-hit, filling-miss, filling-all}
+use Rattle.words.proofs.FillLaws.{counted, Filling, filling-none, filling-hit, filling-miss, filling-all}
 
 -- ---- the batch
 
 -- after i questions, with the cursor at a place
 pub record Asking (bs qs : List ℕ) (base first : ℕ) (rows₀ ranks₀ rows ranks : List ℕ) (n cursor i : ℕ) : Type 0 where
-  pub filled : Filling (rising 0 size (placesSaid bs) ≡ true) (rowsFrom base (placesSaid bs)) qs first rows₀ ranks₀ rows ranks n i
+  pub filled : Filling (rising 0 size (placesSaid bs) ≡ true) (rowsFrom base (placesSaid bs)) qs (counted (rowsFrom base (placesSaid bs)) first) rows₀ ranks₀ rows ranks n i
   pub inside : cursor ≤ length bs / 2
   pub passed : rising 0 size (placesSaid bs) ≡ true → (j : ℕ) → i ≤ j → j < length qs → AllBelow (placesSaid bs) (getD qs j 0 - base) cursor
 
 pub asking-none : (bs qs : List ℕ) (base first : ℕ) (rows ranks : List ℕ) → Asking bs qs base first rows ranks rows ranks 0 0 0
 asking-none bs qs base first rows ranks =
-    record { filled = filling-none _ _ qs first rows ranks; inside = omega arith; passed = λ rises j l m k h. absurd (omega arith) }
+    record { filled = filling-none _ _ qs _ rows ranks; inside = omega arith; passed = λ rises j l m k h. absurd (omega arith) }
 
 module _ {bs qs rows₀ ranks₀ rows ranks : List ℕ} {base first n cursor i : ℕ} (a : Asking bs qs base first rows₀ ranks₀ rows ranks n cursor i)
     (order : NeverFalls qs) (block : InBlock base qs) (h : i < length qs) {r : Search} (f : Finds bs (getD qs i 0 - base) cursor r) where

@@ -5,11 +5,11 @@ use mathlib.Core.Bool.{Bool, true, false, _||_}
 use mathlib.Core.List.{List, [], _∷_, _++_, append-assoc}
 use mathlib.Core.Option.{Option, none, some}
 use native.Mathlib.Omega.{arith}
-use lib.ListN.{length, length-append, length-map, List·getD-append}
-use lib.Seq.{getD-append-add}
+use lib.ListN.{length, take, drop, length-append, length-drop, length-map, List·getD-append}
+use lib.Seq.{getD-append-add, drop-append-add, drop-append-le, take-append-le}
 use lib.Dec.{leb, ltb, eqb}
 use borrow.Author.Tests.{leb-true, leb-false, le-leb, lt-leb, ltb-true, ltb-false, eqb-true, eqb-false, le-ltb, lt-ltb, eq-eqb, ne-eqb}
-use Rattle.spec.specs.Set.{bit, contains, rank, lookup, select, next}
+use Rattle.spec.specs.Set.{bit, contains, rank, lookup, select, next, page}
 use Rattle.spec.specs.Layout.{size, Block, rowsOf, dataOf, allData}
 use Rattle.spec.specs.Reading.{part, dataSize, rowsBefore, bytesBefore}
 use Rattle.spec.proofs.Tests.{by-test}
@@ -111,6 +111,17 @@ module _ (count : ℕ) (gs : List Block) (w : Well count 0 gs) where
       let R = rowsFrom b (placesOf b gs) in
       ap₂ (λ n l. select (n + k) l) (rows-cut b) (c .rows) ∙ getD-append-add (c .before) (R ++ c .after) k 0
       ∙ List·getD-append R (c .after) 0 k (omega (arith, length-map (placesOf b gs) (λ p. b * size + p))) ∙ select-in b k (placesOf b gs) h
+
+  -- rows of one block, one after another
+  pub page-split : (b k n : ℕ) → k + n ≤ length (placesOf b gs)
+      → page (rowsBefore b gs + k) n (rowsOf gs) ≡ page k n (rowsFrom b (placesOf b gs))
+  page-split b k n h =
+      let c = cut count 0 b gs w in
+      let R = rowsFrom b (placesOf b gs) in
+      let many : length R ≡ length (placesOf b gs) = length-map (placesOf b gs) (λ p. b * size + p) in
+      ap₂ (λ m l. take n (drop (m + k) l)) (rows-cut b) (c .rows)
+      ∙ ap (take n) (drop-append-add (c .before) (R ++ c .after) k ∙ drop-append-le k R (c .after) (omega arith))
+      ∙ take-append-le n (drop k R) (c .after) (omega (arith, length-drop k R))
 
   -- next: in the block, or else in a later one
   pub next-split : (t : ℕ) → next t (rowsOf gs) ≡ orElse (moved (t / size * size) (next (t % size) (placesOf (t / size) gs))) (next ((t / size + 1) * size) (rowsOf gs))

@@ -16,7 +16,7 @@ abbrev μ-loop : tie.MeasureT-loop
 μ-loop part questions base first rows₀ ranks₀ n₀ i₀ rows ranks n i = length questions - i
 
 loop-holds : tie.Need-loop-holds Inv-loop μ-loop
-loop-holds c = λ ps. filling-none _ _ _ _ _ _
+loop-holds c = record { filled = λ ps. filling-none _ _ _ _ _ _ }
 
 -- a question is a row of the block
 sub-lookup : tie.Need-sub-lookup Inv-loop μ-loop
@@ -30,19 +30,19 @@ cast-lookup c =
     omega (arith, a .pre .1 .1 .0 .1 (c .before .before .loop .i) (c .before .loop-test .taken))
 
 mul-rows : tie.Need-mul-rows Inv-loop μ-loop
-mul-rows c = omega (arith, c .before .before .before .before .before .before .loop .inv [])
+mul-rows c = omega (arith, c .before .before .before .before .before .before .loop .inv .filled [])
 
 slice-write-rows : tie.Need-slice-write-rows Inv-loop μ-loop
-slice-write-rows c = omega (arith, c .before .before .before .before .before .before .loop .inv [])
+slice-write-rows c = omega (arith, c .before .before .before .before .before .before .loop .inv .filled [])
 
 mul-ranks : tie.Need-mul-ranks Inv-loop μ-loop
-mul-ranks c = omega (arith, c .before .before .before .before .before .before .before .loop .inv [])
+mul-ranks c = omega (arith, c .before .before .before .before .before .before .before .loop .inv .filled [])
 
 slice-write-ranks : tie.Need-slice-write-ranks Inv-loop μ-loop
-slice-write-ranks c = omega (arith, c .before .before .before .before .before .before .before .loop .inv [])
+slice-write-ranks c = omega (arith, c .before .before .before .before .before .before .before .loop .inv .filled [])
 
 add-n : tie.Need-add-n Inv-loop μ-loop
-add-n c = omega (arith, c .before .before .before .before .before .before .before .loop .inv [])
+add-n c = omega (arith, c .before .before .before .before .before .before .before .loop .inv .filled [])
 
 loop-again : tie.Need-loop-again Inv-loop μ-loop
 loop-again c =
@@ -56,10 +56,10 @@ loop-again-2 c =
     asking-miss (l .loop .inv) (l .before .before .before .before .before .pre .1 .1 .0 .1) (omega arith) (c .before .before .lookup .ensures) (c .enum-told .given .1)
 
 same-length : tie.Need-same-length Inv-loop μ-loop
-same-length c = c .before .loop .inv [] .rows-long
+same-length c = c .before .loop .inv .filled [] .rows-long
 
 same-length-2 : tie.Need-same-length-2 Inv-loop μ-loop
-same-length-2 c = c .before .loop .inv [] .ranks-long
+same-length-2 c = c .before .loop .inv .filled [] .ranks-long
 
 returns : tie.Need-returns Inv-loop μ-loop
 returns c =
