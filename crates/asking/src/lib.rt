@@ -1,5 +1,5 @@
 // Questions over an opened file: its bytes, and the directory and the record that opening gave. 10 comes first, then 9.
-pub mod parts;
+mod parts;
 
 use spec::Answer;
 use spec::Found;

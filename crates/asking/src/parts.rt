@@ -7,7 +7,7 @@ ghost use Rattle.spec.specs.Answers.{broken};
 ghost use Rattle.asking.specs.Members.{Member};
 
 // The member with a rank below n.
-pub fn member(bytes: &[u8], directory: &[u32], record: Record, rank: u32) -> u32
+pub(crate) fn member(bytes: &[u8], directory: &[u32], record: Record, rank: u32) -> u32
     requires { ⌜ broken (now bytes) (now directory) «record» ≡ false ⌝ }
     requires { ⌜ rank < «record» .populated ⌝ }
     ensures { λ r. ⌜ Member (now (bytes .entry)) (now (directory .entry)) «record» rank r ⌝ }
