@@ -29,7 +29,7 @@ returns : tie.Need-returns Inv-loop μ-loop
 returns c =
     let l = c .before .before .before .loop .inv in
     let s = c .before .before .before .before .before .before .before .before .before .before .before in
-    list-short (s .pre .0) l (c .before .if1 .taken) (c .if2 .taken) (omega (arith, l .long))
+    list-short (s .pre .0) l (c .before .if1 .taken) (omega (arith, l .within)) (omega (arith, l .long))
 
 loop-again : tie.Need-loop-again Inv-loop μ-loop
 loop-again c =
