@@ -11,7 +11,7 @@ ghost use Rattle.words.specs.Part.{NeverFalls, InBlock};
 ghost use Rattle.batches.specs.Batches.{climbing, Looked, Hits};
 
 // Whether questions never fall: a flag without an early exit, so that many are compared at once.
-pub fn never_fall(questions: &[u32]) -> bool
+pub(crate) fn never_fall(questions: &[u32]) -> bool
     ensures { λ r. ⌜ r ≡ climbing 0 (now (questions .entry)) ⌝ }
 {
     let mut ok = true;
@@ -26,7 +26,7 @@ pub fn never_fall(questions: &[u32]) -> bool
 }
 
 // The hits of questions that never fall: those of one block at once, up to the first at or past the row count.
-pub fn sorted(
+pub(crate) fn sorted(
     bytes: &[u8],
     directory: &[u32],
     record: Record,
@@ -93,7 +93,7 @@ fn in_block(
 }
 
 // The hits of questions in any order, one after another.
-pub fn in_order(
+pub(crate) fn in_order(
     bytes: &[u8],
     directory: &[u32],
     record: Record,

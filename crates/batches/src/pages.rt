@@ -9,7 +9,7 @@ ghost use Rattle.spec.specs.Answers.{broken};
 ghost use Rattle.batches.specs.Batches.{Listed, ListedIn};
 
 // Fills rows with the members from a rank on. The block of the rank is looked up; the next block's ranks follow.
-pub fn fill(bytes: &[u8], directory: &[u32], record: Record, from: u32, rows: &mut [u32])
+pub(crate) fn fill(bytes: &[u8], directory: &[u32], record: Record, from: u32, rows: &mut [u32])
     requires { ⌜ broken (now bytes) (now directory) «record» ≡ false ⌝ }
     requires { ⌜ (0 < length (now rows)) × (from + length (now rows) ≤ «record» .populated) ⌝ }
     ensures { λ r. ⌜ Listed (now (bytes .entry)) (now (directory .entry)) «record» from (now (rows .entry)) (now (rows .exit)) ⌝ }
@@ -30,7 +30,7 @@ pub fn fill(bytes: &[u8], directory: &[u32], record: Record, from: u32, rows: &m
 }
 
 // The same where all these ranks are of one block.
-pub fn fill_in(
+pub(crate) fn fill_in(
     bytes: &[u8],
     directory: &[u32],
     record: Record,
@@ -48,7 +48,7 @@ pub fn fill_in(
 }
 
 // How many ranks from k on are below an end, of at most so many.
-pub fn room(most: usize, k: u32, end: u32) -> usize
+pub(crate) fn room(most: usize, k: u32, end: u32) -> usize
     ensures { λ r. ⌜ r ≡ min most (end - k) ⌝ }
 {
     if end <= k {

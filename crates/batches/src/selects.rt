@@ -11,7 +11,7 @@ ghost use Rattle.directory.specs.Parts.{Bracket};
 ghost use Rattle.batches.specs.Batches.{Selected, Run};
 
 // Whether all ranks are below n: a flag without an early exit, so that many are compared at once.
-pub fn all_below(ranks: &[u32], n: u32) -> bool
+pub(crate) fn all_below(ranks: &[u32], n: u32) -> bool
     ensures { λ r. ⌜ r ≡ below n (now (ranks .entry)) ⌝ }
 {
     let mut ok = true;
@@ -26,7 +26,7 @@ pub fn all_below(ranks: &[u32], n: u32) -> bool
 }
 
 // Replaces ranks below n by their rows: a run of consecutive ranks in one block is a page of it.
-pub fn replace(bytes: &[u8], directory: &[u32], record: Record, ranks: &mut [u32])
+pub(crate) fn replace(bytes: &[u8], directory: &[u32], record: Record, ranks: &mut [u32])
     requires { ⌜ broken (now bytes) (now directory) «record» ≡ false ⌝ }
     requires { ⌜ below («record» .populated) (now ranks) ≡ true ⌝ }
     ensures { λ r. ⌜ Selected (now (bytes .entry)) (now (directory .entry)) «record» (now (ranks .entry)) (now (ranks .exit)) ⌝ }

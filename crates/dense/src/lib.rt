@@ -187,7 +187,7 @@ pub fn page(part: &[u8], base: u32, from: u32, out: &mut [u32])
     let mut j = 0;
     while j < out.len() {
         if word == 0 {
-            if 1023 <= m {
+            if 1022 < m {
                 return;
             }
             m += 1;
