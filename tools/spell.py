@@ -16,9 +16,16 @@ import sys
 AGAIN = {
     "blockCount": "count_of_blocks",
     "clear-lowest": "cleared_lowest",
+    "contents-ok": "contents_pass",
+    "count-read": "count_is_read",
     "contentOk": "is_content",
     "dataSize": "size_of_data",
+    "entries-ok": "entries_pass",
+    "entry-bytes": "entry_to_bytes",
+    "entry-count": "entry_count_back",
     "entryOk": "is_entry",
+    "mini-bytes": "mini_to_bytes",
+    "word-from": "word_from_place",
 }
 
 NAME = r"[^\s(){}.;,@\"«»`|]+"

@@ -1,4 +1,6 @@
 // Questions over an opened file: its bytes, and the directory and the record that opening gave. 10 comes first, then 9.
+#![tactic(auto)]
+
 mod parts;
 
 ghost use Rattle.spec.specs.Answers.{answered, numbered, found, ContainsOwes, RankOwes, LookupOwes, SelectOwes, NextOwes};

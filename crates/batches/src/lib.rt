@@ -1,4 +1,6 @@
 // Batches and pages over an opened file: its bytes, and the directory and the record that opening gave. 10 comes first, then 4 or 9.
+#![tactic(auto)]
+
 mod lookups;
 mod pages;
 mod selects;

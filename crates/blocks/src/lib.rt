@@ -1,5 +1,7 @@
 // A block's questions, of its part of the file: dense if that has 10,240 bytes, else sparse, since 5,119 places take 10,238. Of any
 // bytes they answer something safe, and of a block's data what its places say.
+#![tactic(auto)]
+
 ghost use Rattle.std.specs.Prelude.{◌≡◌, ◌+◌, ◌^◌, ◌≤◌, ◌<◌, length};
 ghost use Rattle.spec.specs.Set.{contains, rank, lookup, select, next};
 ghost use Rattle.spec.specs.Layout.{size};

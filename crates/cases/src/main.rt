@@ -1,4 +1,6 @@
 // The worked cases of document 01 that code can be asked for, a line each: what came, and whether it is what the document says.
+#![tactic(auto)]
+
 mod bytes;
 mod files;
 mod set;

@@ -1,4 +1,6 @@
 // Document 01's numbers for the answers: a refusal's number, and the one 64-bit number by which a C call gives an answer.
+#![tactic(auto)]
+
 ghost use Rattle.std.specs.Prelude.{◌≡◌, ◌+◌};
 ghost use Rattle.spec.specs.Answers.{number, answered, numbered, found, code};
 

@@ -1,4 +1,6 @@
 // Files that are opened: good ones, with their record and directory, and damaged ones, each the smallest that shows its refusal.
+#![tactic(auto)]
+
 mod dense;
 
 use codes::NONE;

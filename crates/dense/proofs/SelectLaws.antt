@@ -18,8 +18,8 @@ abbrev pub count_read : ℕ → List ℕ → ℕ
 count_read m bs = number_in (part (10 * m + 8) (10 * m + 8 + 2) bs)
 
 -- which is where it stands
-count_read : (m : ℕ) (bs : List ℕ) → count_read m bs ≡ count_at m bs
-count_read m bs = let e : 10 * m + 8 + 2 ≡ 10 * m + 10 = omega arith in rw e
+count_is_read : (m : ℕ) (bs : List ℕ) → count_read m bs ≡ count_at m bs
+count_is_read m bs = let e : 10 * m + 8 + 2 ≡ 10 * m + 10 = omega arith in rw e
 
 -- ---- the search: it is one of `left` mini-blocks from `base` on
 
@@ -47,7 +47,7 @@ module _ {bs : List ℕ} {k base left : ℕ} (long : length bs ≡ 10240) (a : A
         some = omega arith;
         within = omega (arith, a.within);
         exact = λ ps h. (
-          omega (arith, count_read (base + left / 2) bs, stored_count bs ps long h (base + left / 2) (omega (arith, a.within))),
+          omega (arith, count_is_read (base + left / 2) bs, stored_count bs ps long h (base + left / 2) (omega (arith, a.within))),
           λ l. rw same ((a.exact ps h).1 l),
         );
       }
@@ -61,7 +61,7 @@ module _ {bs : List ℕ} {k base left : ℕ} (long : length bs ≡ 10240) (a : A
           (a.exact ps h).0,
           λ l. omega (
             arith,
-            count_read (base + left / 2) bs,
+            count_is_read (base + left / 2) bs,
             stored_count bs ps long h (base + left / 2) (omega (arith, a.within)),
             rank_mono (64 * (base + left / 2)) (64 * (base + (left - left / 2))) ps (omega arith),
           ),

@@ -1,5 +1,7 @@
 // A dense block: 1,024 mini-blocks of ten bytes, each a word of 64 bits and the number of the block's rows before it. Its questions
 // take its part of the file, 10,240 bytes. Of any such bytes they answer something safe, and of a block's data what its places say.
+#![tactic(auto)]
+
 ghost use Rattle.std.specs.Prelude.{◌≡◌, ◌+◌, ◌%◌, ◌^◌, ◌<◌, ◌≤◌, true, map, length};
 ghost use Rattle.spec.specs.Set.{rising, contains, rank, lookup, select, next};
 ghost use Rattle.spec.specs.Layout.{size, dense_data};

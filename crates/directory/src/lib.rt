@@ -1,4 +1,6 @@
 // The directory that opening gave, with its record and bytes: 10, the part of a block, and the block of a rank.
+#![tactic(auto)]
+
 ghost use Rattle.std.specs.Prelude.{◌≡◌, ◌+◌, ◌*◌, ◌≤◌, ◌<◌, length, leb};
 ghost use Rattle.spec.specs.Set.{bit};
 ghost use Rattle.spec.specs.Answers.{broken};

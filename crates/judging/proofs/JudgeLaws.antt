@@ -87,8 +87,8 @@ right_sums count rows bytes es e =
 
 -- ---- behind the head: n entries are said to stand before the last two bytes
 
-pub entry_count : (file : List ℕ) (n : ℕ) → 2 ≤ length file → n ≡ number_in (part (length file - 2) (length file - 2 + 2) file) → n ≡ entry_count file
-entry_count file n h e = let l : length file - 2 + 2 ≡ length file = omega arith in e ∙ ap (λ to. number_in (part (length file - 2) to file)) l
+pub entry_count_back : (file : List ℕ) (n : ℕ) → 2 ≤ length file → n ≡ number_in (part (length file - 2) (length file - 2 + 2) file) → n ≡ entry_count file
+entry_count_back file n h e = let l : length file - 2 + 2 ≡ length file = omega arith in e ∙ ap (λ to. number_in (part (length file - 2) to file)) l
 
 pub says_overlap : (file : List ℕ) (h : R.Head) (n : ℕ) → Headed file h → n ≡ entry_count file → length file < h.start + 4 * n + 2 → refused 6 ≡ judged (verdict file)
 says_overlap file h n hd q l = rw (overlap_6 file h hd.read hd.unpadded hd.limited (omega (arith, q)))

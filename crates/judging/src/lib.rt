@@ -1,4 +1,6 @@
 // The verdict on a file's bytes: the checks 5, 1, 6, 7, 8, each over the whole file before the next. Here alone a file is judged.
+#![tactic(auto)]
+
 mod contents;
 pub mod entries;
 mod head;

@@ -1,4 +1,6 @@
 // A case's line: its name, what came, and whether that is what is due.
+#![tactic(auto)]
+
 ghost use Rattle.std.specs.Prelude.{◌≡◌, true};
 
 use codes::NONE;

@@ -30,15 +30,15 @@ word_nil zero a = refl
 word_nil (suc f) a = rw (word_nil f (suc a))
 
 -- the places before its own may go
-word_from : (m low end : ℕ) (ps : List ℕ) → Rising low end ps → word m (drop (rank (64 * m) ps) ps) ≡ word m ps
+word_from_place : (m low end : ℕ) (ps : List ℕ) → Rising low end ps → word m (drop (rank (64 * m) ps) ps) ≡ word m ps
 unfolding rank
-word_from m low end [] r = refl
-word_from m low end (p ∷ ps) r =
+word_from_place m low end [] r = refl
+word_from_place m low end (p ∷ ps) r =
     by_test (ltb p (64 * m))
     (λ e.
     let one : 1 + rank (64 * m) ps ≡ suc (rank (64 * m) ps) = omega arith in
     let l = ltb-true p (64 * m) e in
-    rw (e, one) (word_from m (suc p) end ps r.2 ∙ sym (word_elsewhere m p ps (λ q. omega arith))))
+    rw (e, one) (word_from_place m (suc p) end ps r.2 ∙ sym (word_elsewhere m p ps (λ q. omega arith))))
     (λ e.
     let z : rank (64 * m) ps ≡ 0 = rank_low (suc p) end ps r.2 (64 * m) (omega (arith, ltb-false p (64 * m) e)) in
     rw (e, z))
@@ -70,7 +70,7 @@ none_gathered m ps r =
     record {
       from = omega arith;
       upto = rank_mono (64 * m) (64 * (m + 1)) ps (omega arith);
-      sum = zero-add (word m (drop (rank (64 * m) ps) ps)) ∙ word_from m 0 size ps r;
+      sum = zero-add (word m (drop (rank (64 * m) ps) ps)) ∙ word_from_place m 0 size ps r;
       small = λ l. pow_pos (select (rank (64 * m) ps) ps - 64 * m);
     }
 

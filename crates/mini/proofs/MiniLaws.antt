@@ -14,8 +14,8 @@ use Rattle.mini.specs.declared.DenseMiniBlock.{DenseMiniBlock}
 -- ---- from_bytes and to_bytes are inverse
 
 -- of a mini-block
-pub mini_bytes : (x : DenseMiniBlock) → x.bitvec < 2 ^ 64 → x.rank < 2 ^ 16 → mini_in (mini_bytes x) ≡ x
-mini_bytes x h l =
+pub mini_to_bytes : (x : DenseMiniBlock) → x.bitvec < 2 ^ 64 → x.rank < 2 ^ 16 → mini_in (mini_bytes x) ≡ x
+mini_to_bytes x h l =
     let W = bytes_of 8 x.bitvec in
     let C = bytes_of 2 x.rank in
     let word : number_in (part 0 8 (W ++ C)) ≡ x.bitvec =

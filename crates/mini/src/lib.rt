@@ -1,4 +1,6 @@
 // The mini-block of a dense block: ten bytes, which are a word of 64 bits and the number of the block's rows in earlier mini-blocks.
+#![tactic(auto)]
+
 pub mod bits;
 
 ghost use Rattle.std.specs.Prelude.{◌≡◌, true, ◌*◌, ◌<◌, length};

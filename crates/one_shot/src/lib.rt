@@ -1,4 +1,6 @@
 // The questions over the bytes alone: opening's checks 5, 1, 6, 7, 8, and then the answer. No directory, and no lent memory.
+#![tactic(auto)]
+
 mod accepted;
 mod spots;
 

@@ -11,7 +11,7 @@ use Rattle.spec.specs.declared.Record.{Record}
 use Rattle.spec.specs.Reading.{AreBytes, Verdict, fault, holds, verdict, entries_ok, entry_count, entries_of, record_of, count_of_blocks, directory_of, directory_length}
 use Rattle.spec.specs.Answers.{value, refused, say_open, OpenOwes, directory_in}
 use Rattle.spec.proofs.Promises.{length_directory}
-use Rattle.spec.proofs.Accepted.{entries_ok}
+use Rattle.spec.proofs.Accepted.{entries_pass}
 use Rattle.spec.proofs.Written.{was_written}
 use Rattle.words.proofs.StoreLaws.{sets_front}
 use Rattle.judging.specs.Phases.{judged}
@@ -70,7 +70,7 @@ filled file count y a =
     let w = was_written file _ a.blocks y a.verdict' in
     record {
       fits = w.fits;
-      right = ap (entries_ok count 0) w.entries' ∙ entries_ok count 0 a.blocks w.well;
+      right = ap (entries_ok count 0) w.entries' ∙ entries_pass count 0 a.blocks w.well;
       runs' = ap (runs (count_of_blocks count) 0 0 0) w.entries' ∙ sym (directory_runs count a.blocks w.well) ∙ sym (ap directory_in a.verdict');
     }
 

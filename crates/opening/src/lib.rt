@@ -1,4 +1,6 @@
 // Opening a file: its record, and the directory of its blocks.
+#![tactic(auto)]
+
 ghost use Rattle.std.specs.Prelude.{◌≡◌, ◌-◌, ◌*◌, ◌≤◌, length};
 ghost use Rattle.std.proofs.lemmas.List.Edits.{sets};
 ghost use Rattle.spec.specs.Answers.{opened, OpenOwes, directory_in};

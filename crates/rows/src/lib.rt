@@ -1,4 +1,6 @@
 // The rows to write: their first fault, and the runs of rows of one block.
+#![tactic(auto)]
+
 ghost use Rattle.std.specs.Prelude.{◌≡◌, true, ◌+◌, ◌*◌, ◌/◌, ◌≤◌, ◌<◌, length, get_or};
 ghost use Rattle.spec.specs.Answers.{value, done, unless, row_fault};
 ghost use Rattle.spec.specs.Layout.{size};

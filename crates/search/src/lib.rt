@@ -1,5 +1,7 @@
 // Searches of a sparse block's places, 16-bit numbers, ascending. Of any bytes they give an index of the places that these say, or the
 // end; of places that rise, where the target is or would go.
+#![tactic(auto)]
+
 ghost use Rattle.std.specs.Prelude.{◌≡◌, cond, ◌+◌, ◌/◌, ◌^◌, ◌≤◌, ◌<◌, min, leb, eqb, length, get_or};
 ghost use Rattle.spec.specs.Set.{bit};
 ghost use Rattle.search.specs.Search.{places_said, index_of, shifted, Finds, Probed};

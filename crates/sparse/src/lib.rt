@@ -1,5 +1,7 @@
 // A sparse block: its places as 16-bit numbers, ascending. Its questions take its part of the file, which is not 10,240 bytes long.
 // Of any such bytes they answer something safe, and of a block's data what its places say.
+#![tactic(auto)]
+
 ghost use Rattle.std.specs.Prelude.{◌≡◌, map, ◌+◌, ◌*◌, ◌%◌, ◌^◌, ◌≤◌, ◌<◌, length};
 ghost use Rattle.spec.specs.Set.{contains, rank, lookup, select, next};
 ghost use Rattle.spec.specs.Layout.{size, sparse_data};

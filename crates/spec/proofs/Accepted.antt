@@ -50,13 +50,13 @@ entries_back count low at (g ∷ gs) pre rest h w l =
     (ap (entries_at (length gs) (at + 4)) (regroup pre (entry_of g) (all_entries gs) rest)
     ∙ entries_back count (suc g.number) (at + 4) gs (pre ++ entry_of g) rest h w.4 (longer pre (entry_of g) at (at + 4) l (omega arith)))
 
-pub entries_ok : (count low : ℕ) (gs : List Block) → Well count low gs → entries_ok count low (map entry_for gs) ≡ true
+pub entries_pass : (count low : ℕ) (gs : List Block) → Well count low gs → entries_ok count low (map entry_for gs) ≡ true
 unfolding entries_ok
-entries_ok count low [] w = refl
-entries_ok count low (g ∷ gs) w =
+entries_pass count low [] w = refl
+entries_pass count low (g ∷ gs) w =
     let n : length g.places ≤ rows_at count g.number = omega (arith, rising_length 0 (rows_at count g.number) g.places w.3) in
     rw (le-leb low g.number w.0, lt-ltb g.number (count_of_blocks count) w.1, le-leb (length g.places) (rows_at count g.number) n)
-    (entries_ok count (suc g.number) gs w.4)
+    (entries_pass count (suc g.number) gs w.4)
 
 -- ---- contents
 
@@ -70,15 +70,15 @@ module _ (count at : ℕ) (g : Block) (gs : List Block) (pre rest : List ℕ) (l
 rows_le : (count b : ℕ) → rows_at count b ≤ size
 rows_le count b = omega arith
 
-contents_ok : (count low at : ℕ) (gs : List Block) (pre rest : List ℕ) → Well count low gs → length pre ≡ at → contents_ok count (map entry_for gs) at (pre ++ (all_data gs ++ rest)) ≡ true
+contents_pass : (count low at : ℕ) (gs : List Block) (pre rest : List ℕ) → Well count low gs → length pre ≡ at → contents_ok count (map entry_for gs) at (pre ++ (all_data gs ++ rest)) ≡ true
 unfolding contents_ok all_data flat_map
-contents_ok count low at [] pre rest w l = refl
-contents_ok count low at (g ∷ gs) pre rest w l =
+contents_pass count low at [] pre rest w l = refl
+contents_pass count low at (g ∷ gs) pre rest w l =
     let end = rows_at count g.number in
     ap₂ (λ a b. a && b)
     (ap (is_content (length g.places) end) (block_part count at g gs pre rest l) ∙ content_back end g.places (rows_le count g.number) w.3)
     (ap (contents_ok count (map entry_for gs) (at + size_of_data (length g.places))) (regroup pre (data_of g.places) (all_data gs) rest)
-    ∙ contents_ok count (suc g.number) (at + size_of_data (length g.places)) gs (pre ++ data_of g.places) rest w.4 (block_longer count at g gs pre rest l))
+    ∙ contents_pass count (suc g.number) (at + size_of_data (length g.places)) gs (pre ++ data_of g.places) rest w.4 (block_longer count at g gs pre rest l))
 
 blocks_back : (count low at : ℕ) (gs : List Block) (pre rest : List ℕ) → Well count low gs → length pre ≡ at → blocks_at (map entry_for gs) at (pre ++ (all_data gs ++ rest)) ≡ gs
 unfolding blocks_at all_data flat_map
@@ -118,23 +118,23 @@ module _ (count : ℕ) (gs : List Block) where
       ∙ ap (ungroups 5) (part_at [] front last 0 (length (written count gs) - 2) refl (zero-add (length front) ∙ length_front))
       ∙ read_back 4 count (all_data gs ++ all_entries gs) (omega arith)
 
-  count_read : length gs < size → entry_count (written count gs) ≡ length gs
+  count_is_read : length gs < size → entry_count (written count gs) ≡ length gs
   unfolding last
-  count_read h =
+  count_is_read h =
       let n = length (written count gs) in
       let l : n - 2 + length last ≡ n = omega (arith, length_bytes 2 (length gs), length_written count gs) in
       ap (λ l. number_in (part (n - 2) n l)) (parted ∙ ap (λ l. front ++ l) (sym (append-nil last)))
       ∙ ap number_in (part_at front last [] (n - 2) n length_front l) ∙ number_bytes 2 (length gs) h
 
   start_read : length gs < size → entry_start (written count gs) ≡ length (groups 4 count ++ all_data gs)
-  start_read h = let e = count_read h in let l = length_written count gs in
+  start_read h = let e = count_is_read h in let l = length_written count gs in
       omega (arith, length-append (groups 4 count) (all_data gs), length_all_data gs)
 
   entries_read : count ≤ limit → Well count 0 gs → length gs < size → entries_of (written count gs) ≡ map entry_for gs
   unfolding written
   entries_read h w f =
       let e : written count gs ≡ (groups 4 count ++ all_data gs) ++ (all_entries gs ++ bytes_of 2 (length gs)) = simp append_assoc in
-      ap₂ (λ n l. entries_at n (entry_start (written count gs)) l) (count_read f) e
+      ap₂ (λ n l. entries_at n (entry_start (written count gs)) l) (count_is_read f) e
       ∙ entries_back count 0 (entry_start (written count gs)) gs (groups 4 count ++ all_data gs) (bytes_of 2 (length gs)) h w (sym (start_read f))
 
 pub accepted : (count : ℕ) (gs : List Block) → count ≤ limit → Well count 0 gs → verdict (written count gs) ≡ holds (head_of count) gs
@@ -143,7 +143,7 @@ accepted count gs h w =
     let H = groups 4 count in
     let rest : List ℕ = all_entries gs ++ bytes_of 2 (length gs) in
     let f : length gs < size = omega (arith, well_length count 0 gs w) in
-    let n = count_read count gs f in
+    let n = count_is_read count gs f in
     let e = entries_read count gs h w f in
     let l = length_written count gs in
     let s : entry_start (written count gs) - length H ≡ data_sizes (map entry_for gs) =
@@ -153,8 +153,8 @@ accepted count gs h w =
       unpadded = shortest_unpadded count (all_data gs ++ rest) (omega arith);
       limited = h;
       fits = omega arith;
-      entries = ap (entries_ok count 0) e ∙ entries_ok count 0 gs w;
+      entries = ap (entries_ok count 0) e ∙ entries_pass count 0 gs w;
       sizes = s ∙ ap data_sizes (sym e);
-      contents = ap (λ es. contents_ok count es (length H) (written count gs)) e ∙ contents_ok count 0 (length H) gs H rest w refl;
+      contents = ap (λ es. contents_ok count es (length H) (written count gs)) e ∙ contents_pass count 0 (length H) gs H rest w refl;
     })
     ∙ ap (holds (head_of count)) (ap (λ es. blocks_at es (length H) (written count gs)) e ∙ blocks_back count 0 (length H) gs H rest w refl)

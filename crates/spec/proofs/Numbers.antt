@@ -114,29 +114,29 @@ number_one = by_back number refusal_of number_back
 pub answered_one : Injective answered
 answered_one =
     by_back answered (back (λ v. get_or (Answer.No ∷ []) v Answer.Yes) Answer.No Answer.Refused)
-    (λ a. elim a [ Answer.Yes ↦ refl | Answer.No ↦ refl | Answer.Refused e ↦ ap Answer.Refused (number_back e) ])
+    (λ a. elim a as (λ k. back (λ v. get_or (Answer.No ∷ []) v Answer.Yes) Answer.No Answer.Refused (answered k) ≡ k) [ Answer.Yes ↦ refl | Answer.No ↦ refl | Answer.Refused e ↦ ap Answer.Refused (number_back e) ])
 
 pub numbered_one : Injective numbered
 numbered_one =
     by_back numbered (back Number.Is (Number.Refused Rows) Number.Refused)
-    (λ a. elim a [ Number.Is v ↦ refl | Number.Refused e ↦ ap Number.Refused (number_back e) ])
+    (λ a. elim a as (λ k. back Number.Is (Number.Refused Rows) Number.Refused (numbered k) ≡ k) [ Number.Is v ↦ refl | Number.Refused e ↦ ap Number.Refused (number_back e) ])
 
 pub found_one : Injective found
 found_one =
     by_back found (back Found.At Found.Nothing Found.Refused)
-    (λ a. elim a [ Found.At v ↦ refl | Found.Nothing ↦ refl | Found.Refused e ↦ ap Found.Refused (number_back e) ])
+    (λ a. elim a as (λ k. back Found.At Found.Nothing Found.Refused (found k) ≡ k) [ Found.At v ↦ refl | Found.Nothing ↦ refl | Found.Refused e ↦ ap Found.Refused (number_back e) ])
 
 pub counted_one : Injective counted
 counted_one =
     by_back counted (back Count.Is (Count.Refused Rows) Count.Refused)
-    (λ a. elim a [ Count.Is v ↦ refl | Count.Refused e ↦ ap Count.Refused (number_back e) ])
+    (λ a. elim a as (λ k. back Count.Is (Count.Refused Rows) Count.Refused (counted k) ≡ k) [ Count.Is v ↦ refl | Count.Refused e ↦ ap Count.Refused (number_back e) ])
 
 pub done_one : Injective done
 done_one =
     by_back done (back (λ u. Done.Yes) Done.Yes Done.Refused)
-    (λ a. elim a [ Done.Yes ↦ refl | Done.Refused e ↦ ap Done.Refused (number_back e) ])
+    (λ a. elim a as (λ k. back (λ u. Done.Yes) Done.Yes Done.Refused (done k) ≡ k) [ Done.Yes ↦ refl | Done.Refused e ↦ ap Done.Refused (number_back e) ])
 
 pub opened_one : Injective opened
 opened_one =
     by_back opened (back Opened.Index (Opened.Refused Rows) Opened.Refused)
-    (λ a. elim a [ Opened.Index rec ↦ refl | Opened.Refused e ↦ ap Opened.Refused (number_back e) ])
+    (λ a. elim a as (λ k. back Opened.Index (Opened.Refused Rows) Opened.Refused (opened k) ≡ k) [ Opened.Index rec ↦ refl | Opened.Refused e ↦ ap Opened.Refused (number_back e) ])

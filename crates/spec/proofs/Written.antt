@@ -31,10 +31,10 @@ entries_written (suc e) at to file y p l =
     (entries_written e (at + 4) to file y (omega arith) l)
     ∙ part_join at (at + 4) to file (omega arith) (omega arith)
 
-entry_bytes : (gs : List Block) → flat_map entry_bytes (map entry_for gs) ≡ all_entries gs
+entry_to_bytes : (gs : List Block) → flat_map entry_bytes (map entry_for gs) ≡ all_entries gs
 unfolding all_entries flat_map entry_of
-entry_bytes [] = refl
-entry_bytes (g ∷ gs) = ap (λ t. entry_of g ++ t) (entry_bytes gs)
+entry_to_bytes [] = refl
+entry_to_bytes (g ∷ gs) = ap (λ t. entry_of g ++ t) (entry_to_bytes gs)
 
 length_entries_at : (e at : ℕ) (file : List ℕ) → length (entries_at e at file) ≡ e
 unfolding entries_at
@@ -129,7 +129,7 @@ passed_written file h y p t =
     blocks_written h.count 0 h.start at es file (entries_some (entry_count file) at file) y t.entries (omega arith) (omega arith) t.contents in
     let e : entry_count file ≡ length gs = sym (length_entries_at (entry_count file) at file) ∙ ap length (sym b.entries') ∙ length-map gs entry_for in
     let es' : part at (n - 2) file ≡ all_entries gs =
-    sym (entries_written (entry_count file) at (n - 2) file y (omega arith) (omega arith)) ∙ ap (flat_map entry_bytes) (sym b.entries') ∙ entry_bytes gs in
+    sym (entries_written (entry_count file) at (n - 2) file y (omega arith) (omega arith)) ∙ ap (flat_map entry_bytes) (sym b.entries') ∙ entry_to_bytes gs in
     let last : part (n - 2) n file ≡ bytes_of 2 (length gs) = sym (part_number 2 (n - 2) n file y (omega arith) (omega arith)) ∙ ap (bytes_of 2) e in
     record {
       limited = t.limited;

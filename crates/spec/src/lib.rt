@@ -1,4 +1,5 @@
 // The answers of the calls, and the record and the entry that they speak of. What they mean stands in specs/.
+#![tactic(auto)]
 
 // What opening returns beside the directory: the row count, how many rows are populated, and where the data starts.
 #[derive(Drop)]

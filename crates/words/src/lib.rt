@@ -1,5 +1,7 @@
 // Numbers in bytes: little-endian ones, the row count's groups of seven bits, and entries. Bytes copied, numbers of blocks, and what a
 // block's questions answer.
+#![tactic(auto)]
+
 pub mod block;
 pub mod count;
 pub mod entry;

@@ -1,4 +1,6 @@
 // Rows to a file: the row count, then block by block the data, with the entries behind all data, then their number.
+#![tactic(auto)]
+
 ghost use Rattle.std.specs.Prelude.{◌≡◌, true, ◌+◌, ◌*◌, ◌/◌, ◌≤◌, ◌<◌, length, get_or};
 ghost use Rattle.std.proofs.lemmas.List.Edits.{sets};
 ghost use Rattle.spec.specs.Set.{rising};

@@ -4,7 +4,7 @@ use native.Mathlib.Omega.{arith}
 use borrow.Author.Rules.{rules}
 use borrow.Author.Tests.{not-true, not-false}
 use Rattle.spec.specs.Reading.{entry_count}
-use Rattle.judging.proofs.JudgeLaws.{Headed, headed, Fitting, Summed, entry_count, says_overlap, says_wrong, says_length, data_within, says_content, says_record}
+use Rattle.judging.proofs.JudgeLaws.{Headed, headed, Fitting, Summed, entry_count_back, says_overlap, says_wrong, says_length, data_within, says_content, says_record}
 use Rattle.judging.proofs.judge_blocks.Statement.{statement}
 use Rattle.judging.proofs.judge_blocks.Tie as tie
 
@@ -20,7 +20,7 @@ u16-at-requires c κs = omega (arith, (head c).upto)
 
 -- so many entries
 counted : (c : tie.After-u16-at) → c.u16-at.result ≡ entry_count c.before.before.args.bytes.now
-counted c = entry_count c.before.before.args.bytes.now _ (omega (arith, (head c.before).upto)) c.u16-at.ensures
+counted c = entry_count_back c.before.before.args.bytes.now _ (omega (arith, (head c.before).upto)) c.u16-at.ensures
 
 add-if1 : tie.Need-overflow-add-if1
 add-if1 c = omega (arith, (head c.before).short)

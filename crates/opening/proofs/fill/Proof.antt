@@ -8,7 +8,7 @@ use lib.Seq.{sets, length-sets}
 use Rattle.spec.specs.Reading.{entry_count, verdict}
 use Rattle.spec.specs.Answers.{directory_in}
 use Rattle.judging.proofs.EntryLaws.{Right}
-use Rattle.judging.proofs.JudgeLaws.{entry_count}
+use Rattle.judging.proofs.JudgeLaws.{entry_count_back}
 use Rattle.opening.proofs.FillLaws.{Filling, fill_end, fill_right, fill_small, fill_more}
 use Rattle.opening.proofs.OpenLaws.{Filled, filled, fill_start}
 use Rattle.opening.proofs.fill.Statement.{statement}
@@ -33,7 +33,7 @@ u16-at-requires c κs = omega (arith, (has c.before).fits)
 
 -- so many entries
 counted : (c : tie.After-u16-at invariant-loop decreases-loop) → c.u16-at.result ≡ entry_count c.before.before.before.args.bytes.now
-counted c = entry_count c.before.before.before.args.bytes.now _ (omega (arith, (has c.before.before).fits)) c.u16-at.ensures
+counted c = entry_count_back c.before.before.before.args.bytes.now _ (omega (arith, (has c.before.before).fits)) c.u16-at.ensures
 
 sub_at : tie.Need-overflow-sub-at invariant-loop decreases-loop
 sub_at c = omega (arith, counted c, (has c.before.before).fits)

@@ -4,7 +4,7 @@ use mathlib.Core.Path.{◌≡◌}
 use borrow.Author.Rules.{rules}
 use Rattle.spec.specs.Reading.{entry_count, entries_of}
 use Rattle.spec.proofs.Content.{size_le}
-use Rattle.judging.proofs.JudgeLaws.{entry_count}
+use Rattle.judging.proofs.JudgeLaws.{entry_count_back}
 use Rattle.one_shot.specs.Spots.{holder_from}
 use Rattle.one_shot.proofs.WalkLaws.{Leading, leading_none, leads_none, leads_whole, leads_on, holder_here, holder_later}
 use Rattle.one_shot.proofs.spots.of_rank.Statement.{statement}
@@ -19,7 +19,7 @@ decreases-loop bytes start k end left₀ entry₀ rows₀ from₀ left entry row
 
 -- so many entries
 counted : (c : tie.After-u16-at invariant-loop decreases-loop) → c.u16-at.result ≡ entry_count c.before.before.args.bytes.now
-counted c = entry_count c.before.before.args.bytes.now _ (omega (arith, c.before.before.requires)) c.u16-at.ensures
+counted c = entry_count_back c.before.before.args.bytes.now _ (omega (arith, c.before.before.requires)) c.u16-at.ensures
 
 sub-entry : tie.Need-overflow-sub-entry invariant-loop decreases-loop
 sub-entry c = omega (arith, counted c, c.before.before.requires)
