@@ -7,8 +7,8 @@ use spec::Record;
 
 // The member with a rank below n.
 pub(crate) fn member(bytes: &[u8], directory: &[u32], record: Record, rank: u32) -> u32
-    requires record_value { broken bytes.now directory.now «record» ≡ false }
-    requires rank_bound { rank < «record».populated }
+    requires unbroken { broken bytes.now directory.now «record» ≡ false }
+    requires rank_below { rank < «record».populated }
     ensures { Member bytes.now directory.now «record» rank result }
 {
     let blocks = words::block::block_count(record.row_count);

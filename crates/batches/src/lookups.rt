@@ -32,9 +32,9 @@ pub(crate) fn sorted(
     rows: &mut [u32],
     ranks: &mut [u32],
 ) -> usize
-    requires record_value { broken bytes.now directory.now «record» ≡ false }
+    requires unbroken { broken bytes.now directory.now «record» ≡ false }
     requires never_falls { NeverFalls questions.now }
-    requires questions_in_bounds { (length questions.now ≤ length rows.old) × (length questions.now ≤ length ranks.old) }
+    requires room { (length questions.now ≤ length rows.old) × (length questions.now ≤ length ranks.old) }
     ensures { Hits bytes.now directory.now «record» questions.now rows.old ranks.old rows.new ranks.new result }
 {
     let mut n = 0;
@@ -72,10 +72,10 @@ fn in_block(
     rows: &mut [u32],
     ranks: &mut [u32],
 ) -> usize
-    requires record_value { broken bytes.now directory.now «record» ≡ false }
-    requires block_bound { block < count_of_blocks «record».row_count }
+    requires unbroken { broken bytes.now directory.now «record» ≡ false }
+    requires block_below { block < count_of_blocks «record».row_count }
     requires never_falls { NeverFalls questions.now × InBlock (65536 * block) questions.now }
-    requires questions_in_bounds { (length questions.now ≤ length rows.old) × (length questions.now ≤ length ranks.old) }
+    requires room { (length questions.now ≤ length rows.old) × (length questions.now ≤ length ranks.old) }
     ensures { Hits bytes.now directory.now «record» questions.now rows.old ranks.old rows.new ranks.new result }
 {
     let b = block as usize;
@@ -99,8 +99,8 @@ pub(crate) fn in_order(
     rows: &mut [u32],
     ranks: &mut [u32],
 ) -> usize
-    requires record_value { broken bytes.now directory.now «record» ≡ false }
-    requires questions_in_bounds { (length questions.now ≤ length rows.old) × (length questions.now ≤ length ranks.old) }
+    requires unbroken { broken bytes.now directory.now «record» ≡ false }
+    requires room { (length questions.now ≤ length rows.old) × (length questions.now ≤ length ranks.old) }
     ensures { Hits bytes.now directory.now «record» questions.now rows.old ranks.old rows.new ranks.new result }
 {
     let mut n = 0;

@@ -8,8 +8,8 @@ use spec::Record;
 
 // Fills rows with the members from a rank on. The block of the rank is looked up; the next block's ranks follow.
 pub(crate) fn fill(bytes: &[u8], directory: &[u32], record: Record, from: u32, rows: &mut [u32])
-    requires record_value { broken bytes.now directory.now «record» ≡ false }
-    requires rows_nonzero { (0 < length rows.old) × (from + length rows.old ≤ «record».populated) }
+    requires unbroken { broken bytes.now directory.now «record» ≡ false }
+    requires rows_there { (0 < length rows.old) × (from + length rows.old ≤ «record».populated) }
     ensures { Listed bytes.now directory.now «record» from rows.old rows.new }
 {
     let blocks = words::block::block_count(record.row_count);
@@ -36,8 +36,8 @@ pub(crate) fn fill_in(
     from: u32,
     rows: &mut [u32],
 )
-    requires record_value { broken bytes.now directory.now «record» ≡ false }
-    requires block_bound { block < count_of_blocks «record».row_count }
+    requires unbroken { broken bytes.now directory.now «record» ≡ false }
+    requires block_below { block < count_of_blocks «record».row_count }
     ensures { ListedIn bytes.now directory.now «record» block from rows.old rows.new }
 {
     let part = directory::part(bytes, directory, record.data_start, block);

@@ -25,8 +25,8 @@ pub(crate) fn all_below(ranks: &[u32], n: u32) -> bool
 
 // Replaces ranks below n by their rows: a run of consecutive ranks in one block is a page of it.
 pub(crate) fn replace(bytes: &[u8], directory: &[u32], record: Record, ranks: &mut [u32])
-    requires record_value { broken bytes.now directory.now «record» ≡ false }
-    requires ranks_value { below «record».populated ranks.old ≡ true }
+    requires unbroken { broken bytes.now directory.now «record» ≡ false }
+    requires ranks_below { below «record».populated ranks.old ≡ true }
     ensures { Selected bytes.now directory.now «record» ranks.old ranks.new }
 {
     let blocks = words::block::block_count(record.row_count);

@@ -74,9 +74,9 @@ pub fn batch(
     rows: &mut [u32],
     ranks: &mut [u32],
 ) -> usize
-    requires base_bound { base + 65536 ≤ 2 ^ 32 }
+    requires base_fits { base + 65536 ≤ 2 ^ 32 }
     requires never_falls { NeverFalls questions.now × InBlock base questions.now }
-    requires questions_in_bounds { (length questions.now ≤ length rows.old) × (length questions.now ≤ length ranks.old) }
+    requires room { (length questions.now ≤ length rows.old) × (length questions.now ≤ length ranks.old) }
     ensures { Batched part.now questions.now base first rows.old ranks.old rows.new ranks.new result }
 {
     if part.len() == DENSE {

@@ -76,8 +76,8 @@ pub fn next(rows: &[u32], t: u32) -> Found
 
 // The questions that are in the set go to the front of hits, and their ranks to that of ranks; returns how many.
 pub fn lookup_batch(rows: &[u32], questions: &[u32], hits: &mut [u32], ranks: &mut [u32]) -> usize
-    requires rows_len_bound { length rows.now < 2 ^ 32 }
-    requires questions_in_bounds { (length questions.now ≤ length hits.old) × (length questions.now ≤ length ranks.old) }
+    requires few_rows { length rows.now < 2 ^ 32 }
+    requires room { (length questions.now ≤ length hits.old) × (length questions.now ≤ length ranks.old) }
     ensures { (value result, hits.new, ranks.new)
         ≡ all_hits questions.now hits.old ranks.old rows.now }
 {

@@ -97,8 +97,8 @@ pub fn next(part: &[u8], place: u16) -> Place
 
 // Whether the block's contents are right: running counts, as many bits as the entry says, none at or past the end.
 pub fn content_ok(part: &[u8], rows: u32, end: u32) -> bool
-    requires part_len { length part.now ≡ 10240 }
-    requires le_rows { (5120 ≤ rows) × (end ≤ 65536) }
+    requires is_dense { length part.now ≡ 10240 }
+    requires limits { (5120 ≤ rows) × (end ≤ 65536) }
     ensures { result ≡ is_content rows end part.now }
 {
     let mut seen: u32 = 0;
@@ -120,10 +120,10 @@ pub fn content_ok(part: &[u8], rows: u32, end: u32) -> bool
 // The dense data of the rows of one block, which fill out. Says the running count past the last mini-block, which is 0 for a full block:
 // that sum alone is meant to wrap.
 pub fn write(rows: &[u32], out: &mut [u8]) -> u16
-    requires out_len { length out.old ≡ 10240 }
-    requires rows_value { rising 0 size (map (λ r. r % size) rows.now) ≡ true }
-    ensures* out_after { λ r. ⌜ out.new ≡ dense_data (map (λ r. r % size) rows.now) ⌝ }
-    ensures value { result ≡ length rows.now % 2 ^ 16 }
+    requires out_long { length out.old ≡ 10240 }
+    requires rows_rise { rising 0 size (map (λ r. r % size) rows.now) ≡ true }
+    ensures wrote { out.new ≡ dense_data (map (λ r. r % size) rows.now) }
+    ensures total { result ≡ length rows.now % 2 ^ 16 }
 {
     let mut before: u16 = 0;
     let mut i = 0;
@@ -151,10 +151,10 @@ pub fn batch(
     rows: &mut [u32],
     ranks: &mut [u32],
 ) -> usize
-    requires part_len { length part.now ≡ 10240 }
-    requires base_bound { base + 65536 ≤ 2 ^ 32 }
+    requires is_dense { length part.now ≡ 10240 }
+    requires base_fits { base + 65536 ≤ 2 ^ 32 }
     requires never_falls { NeverFalls questions.now × InBlock base questions.now }
-    requires questions_in_bounds { (length questions.now ≤ length rows.old) × (length questions.now ≤ length ranks.old) }
+    requires room { (length questions.now ≤ length rows.old) × (length questions.now ≤ length ranks.old) }
     ensures { Batched part.now questions.now base first rows.old ranks.old rows.new ranks.new result }
 {
     let mut n = 0;
@@ -176,8 +176,8 @@ pub fn batch(
 
 // Fills out with the rows of the block that begins at row base, from that with `from` rows of the block below it on.
 pub fn page(part: &[u8], base: u32, from: u32, out: &mut [u32])
-    requires part_len { length part.now ≡ 10240 }
-    requires base_bound { base + 65536 ≤ 2 ^ 32 }
+    requires is_dense { length part.now ≡ 10240 }
+    requires base_fits { base + 65536 ≤ 2 ^ 32 }
     ensures { Paged part.now base from out.old out.new }
 {
     let mut m = find_mini(part, from);

@@ -10,8 +10,8 @@ pub(crate) fn all_ok(
     entries: usize,
     row_count: u32,
 ) -> bool
-    requires entries_in_bounds { from + 4 * entries ≤ length bytes.now }
-    requires bytes_in_bounds { start + data_sizes (entries_at entries from bytes.now) ≤ length bytes.now }
+    requires entries_within { from + 4 * entries ≤ length bytes.now }
+    requires within { start + data_sizes (entries_at entries from bytes.now) ≤ length bytes.now }
     ensures { result ≡ contents_ok row_count (entries_at entries from bytes.now) start bytes.now }
 {
     let mut data = start;

@@ -6,7 +6,7 @@ ghost use Rattle.judging.specs.Phases.{is_entry, totals};
 use spec::Entry;
 
 // What the entries call for: so many populated rows, and so many data bytes.
-#[derive(Drop)]
+#[derive(Clone, Copy)]
 pub(crate) enum Totals {
     Sums { rows: u32, size: usize },
     Wrong,

@@ -9,7 +9,7 @@ use words::count::Counted;
 const LIMIT: u64 = 4294901760;
 
 // The row count, and how many bytes it takes.
-#[derive(Drop)]
+#[derive(Clone, Copy)]
 pub(crate) enum Head {
     Is { row_count: u32, start: usize },
     Refused(Refusal),

@@ -10,7 +10,7 @@ ghost use Rattle.spec.specs.Layout.{size};
 ghost use Rattle.mini.specs.Mini.{mini_in, mini_bytes, MiniAt, places, Gathers};
 
 // A word, and the number of rows before it.
-#[derive(Drop)]
+#[derive(Clone, Copy)]
 pub struct DenseMiniBlock {
     pub bitvec: u64,
     pub rank: u16,
@@ -63,7 +63,7 @@ pub fn put(out: &mut [u8], m: u16, before: u16, word: u64)
 }
 
 // A word made of rows, and the index of the first row past them.
-#[derive(Drop)]
+#[derive(Clone, Copy)]
 pub struct Gathered {
     pub word: u64,
     pub next: usize,

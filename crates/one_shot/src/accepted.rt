@@ -50,7 +50,7 @@ pub(crate) fn lookup(bytes: &[u8], record: Record, row: u32) -> Place
 // The member with a rank below n.
 pub(crate) fn select(bytes: &[u8], record: Record, k: u32) -> u32
     requires accepted { Accepted bytes.now «record» }
-    requires k_bound { k < «record».populated }
+    requires k_below { k < «record».populated }
     ensures { Says bytes.now (λ xs. result ≡ select k xs) }
 {
     let spot = spots::of_rank(bytes, record.data_start, k);

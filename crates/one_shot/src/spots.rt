@@ -3,7 +3,7 @@ ghost use Rattle.std.specs.Prelude.{◌≡◌, ◌+◌, ◌*◌, ◌≤◌, leng
 ghost use Rattle.spec.specs.Reading.{entry_count, entries_of};
 ghost use Rattle.one_shot.specs.Spots.{spot_from, holder_from};
 
-#[derive(Drop)]
+#[derive(Clone, Copy)]
 pub(crate) struct Spot {
     pub number: u16,
     pub rows: usize,

@@ -29,7 +29,7 @@ pub fn open(bytes: &[u8], directory: &mut [u32]) -> Opened
 // Writes the directory of an accepted file: up to each entry's block the pairs are equal, and so are those behind the last.
 fn fill(bytes: &[u8], row_count: u32, directory: &mut [u32])
     requires accepts { Accepts bytes.now row_count }
-    requires row_count_in_bounds { directory_length row_count ≤ length directory.old }
+    requires room { directory_length row_count ≤ length directory.old }
     ensures { directory.new ≡ sets directory.old 0 (directory_in (verdict bytes.now)) }
 {
     let end = bytes.len() - 2;

@@ -99,7 +99,7 @@ fn halve(rows: &[u32], from: usize, few: usize, end: u64) -> usize
 }
 
 // What the blocks of rows take: their data bytes, and how many there are.
-#[derive(Drop)]
+#[derive(Clone, Copy)]
 pub struct Shape {
     pub data: usize,
     pub entries: usize,

@@ -7,7 +7,7 @@ ghost use Rattle.spec.specs.Set.{bit};
 ghost use Rattle.search.specs.Search.{places_said, index_of, shifted, Finds, Probed};
 
 // Where a place is found, or where it would go.
-#[derive(Drop)]
+#[derive(Clone, Copy)]
 pub enum Search {
     Found(usize),
     Insert(usize),

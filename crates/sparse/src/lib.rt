@@ -88,7 +88,7 @@ pub fn content_ok(part: &[u8], rows: u32, end: u32) -> bool
 // The sparse data of the rows of one block, which fill out.
 pub fn write(rows: &[u32], out: &mut [u8])
     requires { length out.old ≡ 2 * length rows.now }
-    ensures* { λ r. ⌜ out.new ≡ sparse_data (map (λ r. r % size) rows.now) ⌝ }
+    ensures { out.new ≡ sparse_data (map (λ r. r % size) rows.now) }
 {
     let mut i = 0;
     while i < rows.len() {
@@ -108,10 +108,10 @@ pub fn batch(
     rows: &mut [u32],
     ranks: &mut [u32],
 ) -> usize
-    requires fact { length part.now ≡ 10240 → ⊥ }
-    requires base_bound { base + 65536 ≤ 2 ^ 32 }
+    requires is_sparse { length part.now ≡ 10240 → ⊥ }
+    requires base_fits { base + 65536 ≤ 2 ^ 32 }
     requires never_falls { NeverFalls questions.now × InBlock base questions.now }
-    requires questions_in_bounds { (length questions.now ≤ length rows.old) × (length questions.now ≤ length ranks.old) }
+    requires room { (length questions.now ≤ length rows.old) × (length questions.now ≤ length ranks.old) }
     ensures { Batched part.now questions.now base first rows.old ranks.old rows.new ranks.new result }
 {
     let mut n = 0;
@@ -137,8 +137,8 @@ pub fn batch(
 
 // Fills out with the rows of the block that begins at row base, from that with `from` rows of the block below it on.
 pub fn page(part: &[u8], base: u32, from: u32, out: &mut [u32])
-    requires fact { length part.now ≡ 10240 → ⊥ }
-    requires base_bound { base + 65536 ≤ 2 ^ 32 }
+    requires is_sparse { length part.now ≡ 10240 → ⊥ }
+    requires base_fits { base + 65536 ≤ 2 ^ 32 }
     ensures { Paged part.now base from out.old out.new }
 {
     let places = part.len() / 2;

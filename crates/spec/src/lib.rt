@@ -2,7 +2,7 @@
 #![tactic(auto)]
 
 // What opening returns beside the directory: the row count, how many rows are populated, and where the data starts.
-#[derive(Drop)]
+#[derive(Clone, Copy)]
 pub struct Record {
     pub row_count: u32,
     pub populated: u32,
@@ -10,13 +10,13 @@ pub struct Record {
 }
 
 // A populated block by its entry: its number, and how many rows are in it (one more than the entry stores).
-#[derive(Drop)]
+#[derive(Clone, Copy)]
 pub struct Entry {
     pub number: u16,
     pub rows: u32,
 }
 
-#[derive(Drop)]
+#[derive(Clone, Copy)]
 pub enum Refusal {
     Rows,
     Order,
@@ -31,7 +31,7 @@ pub enum Refusal {
 }
 
 // contains
-#[derive(Drop)]
+#[derive(Clone, Copy)]
 pub enum Answer {
     Yes,
     No,
@@ -39,14 +39,14 @@ pub enum Answer {
 }
 
 // rank, select
-#[derive(Drop)]
+#[derive(Clone, Copy)]
 pub enum Number {
     Is(u32),
     Refused(Refusal),
 }
 
 // lookup, where Nothing is "not there"; next, where it is "none"
-#[derive(Drop)]
+#[derive(Clone, Copy)]
 pub enum Found {
     At(u32),
     Nothing,
@@ -54,20 +54,20 @@ pub enum Found {
 }
 
 // write, batch lookup, page
-#[derive(Drop)]
+#[derive(Clone, Copy)]
 pub enum Count {
     Is(usize),
     Refused(Refusal),
 }
 
 // batch select
-#[derive(Drop)]
+#[derive(Clone, Copy)]
 pub enum Done {
     Yes,
     Refused(Refusal),
 }
 
-#[derive(Drop)]
+#[derive(Clone, Copy)]
 pub enum Opened {
     Index(Record),
     Refused(Refusal),

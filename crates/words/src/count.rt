@@ -6,13 +6,13 @@ ghost use Rattle.spec.specs.Reading.{ungroups};
 ghost use Rattle.words.specs.Count.{count_in};
 
 // A row count, and how many bytes it takes.
-#[derive(Drop)]
+#[derive(Clone, Copy)]
 pub struct RowCount {
     pub count: u64,
     pub start: usize,
 }
 
-#[derive(Drop)]
+#[derive(Clone, Copy)]
 pub enum Counted {
     Is(RowCount),
     Padded,

@@ -12,7 +12,7 @@ ghost use Rattle.std.proofs.lemmas.List.Edits.{sets};
 ghost use Rattle.spec.specs.Reading.{part};
 
 // What a block says to lookup and next: a number, or that there is none.
-#[derive(Drop)]
+#[derive(Clone, Copy)]
 pub enum Place {
     At(u32),
     Nothing,

@@ -44,8 +44,8 @@ fn put_file(row_count: u32, rows: &[u32], out: &mut [u8]) -> Count
 
 // The data of all blocks, stored from at on, and their entries, stored from to on.
 fn put_blocks(out: &mut [u8], at: usize, to: usize, rows: &[u32])
-    requires rows_value { ascends 0 rows.now ≡ true }
-    requires rows_bound { (at + length (all_data (blocks rows.now)) ≤ to) × (to + 4 * length (blocks rows.now) ≤ length out.old) }
+    requires rows_rise { ascends 0 rows.now ≡ true }
+    requires room { (at + length (all_data (blocks rows.now)) ≤ to) × (to + 4 * length (blocks rows.now) ≤ length out.old) }
     ensures { out.new ≡ sets (sets out.old at (all_data (blocks rows.now))) to (all_entries (blocks rows.now)) }
 {
     let mut a = at;
@@ -62,8 +62,8 @@ fn put_blocks(out: &mut [u8], at: usize, to: usize, rows: &[u32])
 
 // The data of the rows of one block, stored from at on, and its entry, stored at to.
 fn put_block(out: &mut [u8], at: usize, to: usize, rows: &[u32])
-    requires rows_bound { (at + size_of_data (length rows.now) ≤ to) × (to + 4 ≤ length out.old) }
-    requires rows_nonzero { (0 < length rows.now) × (rising 0 size (places rows.now) ≡ true) }
+    requires room { (at + size_of_data (length rows.now) ≤ to) × (to + 4 ≤ length out.old) }
+    requires rows_there { (0 < length rows.now) × (rising 0 size (places rows.now) ≡ true) }
     ensures { out.new ≡ sets (sets out.old at (data_of (places rows.now))) to (entry_of (record { number = get_or rows.now 0 0 / size; places = places rows.now })) }
 {
     let n = rows.len();
@@ -79,8 +79,8 @@ fn put_block(out: &mut [u8], at: usize, to: usize, rows: &[u32])
 
 // The data of the rows of one block, which fill out.
 fn put_data(out: &mut [u8], rows: &[u32])
-    requires out_len { length out.old ≡ size_of_data (length rows.now) }
-    requires rows_value { rising 0 size (places rows.now) ≡ true }
+    requires out_long { length out.old ≡ size_of_data (length rows.now) }
+    requires rows_rise { rising 0 size (places rows.now) ≡ true }
     ensures { out.new ≡ data_of (places rows.now) }
 {
     if rows.len() < 5120 {

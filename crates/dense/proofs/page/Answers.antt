@@ -1,0 +1,53 @@
+use Rattle.std.proofs.Common.{◌-◌, refl, arith, rules}
+use Rattle.mini.proofs.LowestLaws.{zeros_lt}
+use Rattle.dense.proofs.PageLaws.{list_first, list_next, list_more, list_short, list_end}
+use Rattle.dense.proofs.page.Goals as goal
+
+pub loop-j-init : goal.loop-j-init
+loop-j-init c =
+    list_first _ c.requires.is_dense c.find_mini-m.ensures c.mini_block-x.ensures c.wrapping_sub_u32.ensures.value
+    (omega arith) c.clear_lowest-word.ensures (omega arith)
+
+pub shape_of-out-then-m-gt1022 : goal.shape_of-out-then-m-gt1022
+shape_of-out-then-m-gt1022 c = c.loop-j.invariant.long
+
+pub returns-then-m-gt1022 : goal.returns-then-m-gt1022
+returns-then-m-gt1022 c =
+    let l = c.loop-j.invariant in
+    list_short c.requires.is_dense l c.if-word-eq0.true (omega (arith, l.within)) (omega (arith, l.long))
+
+pub loop-j-preserved-then-word-eq0 : goal.loop-j-preserved-then-word-eq0
+loop-j-preserved-then-word-eq0 c =
+    let l = c.loop-j.invariant in
+    list_next c.requires.is_dense l c.if-word-eq0.true (omega arith) c.read-word.ensures (omega arith)
+
+pub overflow_add-out-else-word-eq0 : goal.overflow_add-out-else-word-eq0
+overflow_add-out-else-word-eq0 c = omega (arith, zeros_lt 64 c.loop-j.word c.loop-j.invariant.word (omega arith))
+
+pub loop-j-preserved : goal.loop-j-preserved
+loop-j-preserved c =
+    let l = c.loop-j.invariant in
+    list_more c.requires.is_dense l (omega arith) (omega (arith, l.long)) refl
+
+pub shape_of-out : goal.shape_of-out
+shape_of-out c = c.loop-j.invariant.long
+
+pub returns : goal.returns
+returns c =
+    let l = c.loop-j.invariant in
+    list_end c.requires.is_dense l (omega (arith, l.long))
+
+pub find_mini-m-requires : goal.find_mini-m-requires
+find_mini-m-requires c = search rules
+
+pub mini_block-x-requires : goal.mini_block-x-requires
+mini_block-x-requires c = search rules
+
+pub wrapping_sub_u32-requires : goal.wrapping_sub_u32-requires
+wrapping_sub_u32-requires c = search rules
+
+pub clear_lowest-word-requires : goal.clear_lowest-word-requires
+clear_lowest-word-requires c = search rules
+
+pub read-word-requires : goal.read-word-requires
+read-word-requires c = omega arith

@@ -1,0 +1,14 @@
+-- `judging::judge` meets its contract. Assumes nothing.
+use mathlib.Core.Path.{sym, ◌∙◌}
+use borrow.Author.Rules.{rules}
+use Rattle.judging.proofs.JudgeLaws.{head_refused}
+use Rattle.judging.proofs.judge.Goals as goal
+
+pub judge_blocks-requires : goal.judge_blocks-requires
+judge_blocks-requires c = sym c.read.ensures ∙ c.in-Is.is
+
+pub returns-in-Refused : goal.returns-in-Refused
+returns-in-Refused c = head_refused _ _ (sym c.read.ensures ∙ c.in-Refused.is)
+
+pub read-requires : goal.read-requires
+read-requires c = search rules

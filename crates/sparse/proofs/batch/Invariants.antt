@@ -1,0 +1,11 @@
+-- `sparse::batch` meets its contract. Assumes nothing.
+use Prim.Native.Nat.{◌-◌}
+use lib.ListN.{length}
+use Rattle.sparse.proofs.BatchLaws.{Asking}
+use Rattle.sparse.proofs.batch.Given as goal
+
+abbrev pub invariant-loop-i : goal.invariant-loop-i
+invariant-loop-i l = Asking l.part l.questions l.base l.first l.initial.rows l.initial.ranks l.rows l.ranks l.n l.cursor l.i
+
+abbrev pub decreases-loop-i : goal.decreases-loop-i
+decreases-loop-i l = length l.questions - l.i
