@@ -71,7 +71,7 @@ pub spot_number : (b rows at : ℕ) (gs : List Block) → (spot_from b rows at (
 unfolding spot_from
 spot_number b rows at [] = refl
 spot_number b rows at (g ∷ gs) =
-    by_test (eqb g.number b) (λ e. rw e) (λ e. rw e (by_test (ltb b g.number) (λ f. rw f) (λ f. rw f (spot_number b _ _ gs))))
+    by_test (eqb g.number b) (λ e. rw e) (λ e. rw e (by_test (ltb b g.number) (λ f. rw f) (λ f. rw f (spot_number b (rows + (entry_for g).rows) (at + size_of_data (entry_for g).rows) gs))))
 
 pub spot_at : (count low b rows at : ℕ) (gs : List Block) → Well count low gs → At rows at gs (spot_from b rows at (map entry_for gs))
 unfolding spot_from

@@ -1,0 +1,77 @@
+use Rattle.std.proofs.Common.{◌-◌, add-zero, arith}
+use Rattle.spec.specs.Reading.{part}
+use Rattle.batches.proofs.HitLaws.{length_tail, seeking_none, seeking_all, seeking_past, seeking_run, Ran, ran}
+use Rattle.batches.proofs.lookups.sorted.Goals as goal
+
+pub loop-i-init : goal.loop-i-init
+loop-i-init c = seeking_none _ _ _ _ _ _
+
+pub shape_of-rows-then-record-row : goal.shape_of-rows-then-record-row
+shape_of-rows-then-record-row c = c.loop-i.invariant.loose.rows_long
+
+pub shape_of-ranks-then-record-row : goal.shape_of-ranks-then-record-row
+shape_of-ranks-then-record-row c = c.loop-i.invariant.loose.ranks_long
+
+pub returns-then-record-row : goal.returns-then-record-row
+returns-then-record-row c =
+    let p = c.requires.room in
+    let past = seeking_past c.loop-i.invariant (λ i. (c.type_inv.bytes i).fits) c.requires.never_falls (omega arith) c.if-record-row.true in
+    rw (add-zero c.loop-i.n) at (seeking_all past (omega arith) p.0 p.1)
+
+pub run_end-to-requires : goal.run_end-to-requires
+run_end-to-requires c = record { from_in_bounds = (omega arith, omega arith); never_falls = c.requires.never_falls }
+
+pub in_block-n-requires : goal.in_block-n-requires
+unfolding part
+in_block-n-requires c =
+    let to : Ran c.args.questions.now c.loop-i.i c.run_end-to.result = ran _ _ _ c.loop-i-test.true c.requires.never_falls c.run_end-to.ensures in
+    let l = c.loop-i in
+    let r = to in
+    let f = l.invariant.loose in
+    let many = r.many in record { unbroken = c.requires.unbroken; block_below = omega (arith, c.if-record-row.false); never_falls = (r.falls, r.block); room = (
+            omega (arith, length_tail l.n l.rows, f.fewer, f.rows_long, r.within, c.requires.room.0),
+            omega (arith, length_tail l.n l.ranks, f.fewer, f.ranks_long, r.within, c.requires.room.1),
+          ) }
+
+pub overflow_add-n : goal.overflow_add-n
+unfolding part
+overflow_add-n c =
+    let to : Ran c.args.questions.now c.loop-i.i c.run_end-to.result = ran _ _ _ c.loop-i-test.true c.requires.never_falls c.run_end-to.ensures in
+    let r = to in
+    let many = r.many in
+    omega (arith, c.in_block-n.ensures.fewer, c.loop-i.invariant.loose.fewer, r.within)
+
+pub loop-i-smaller : goal.loop-i-smaller
+loop-i-smaller c =
+    let to : Ran c.args.questions.now c.loop-i.i c.run_end-to.result = ran _ _ _ c.loop-i-test.true c.requires.never_falls c.run_end-to.ensures in
+    let r = to in omega (arith, r.some, r.within)
+
+pub loop-i-preserved : goal.loop-i-preserved
+unfolding part
+loop-i-preserved c =
+    let to : Ran c.args.questions.now c.loop-i.i c.run_end-to.result = ran _ _ _ c.loop-i-test.true c.requires.never_falls c.run_end-to.ensures in
+    let p = c.requires.room in
+    let r = to in
+    seeking_run c.loop-i.invariant _ _ _ _ (omega (arith, r.some)) r.within p.0 p.1 c.in_block-n.ensures
+    c.rows-1.given.0 c.ranks-1.given.0
+
+pub shape_of-rows : goal.shape_of-rows
+shape_of-rows c = c.loop-i.invariant.loose.rows_long
+
+pub shape_of-ranks : goal.shape_of-ranks
+shape_of-ranks c = c.loop-i.invariant.loose.ranks_long
+
+pub returns : goal.returns
+returns c = let p = c.requires.room in seeking_all c.loop-i.invariant (omega arith) p.0 p.1
+
+pub slice_bounds-some-count : goal.slice_bounds-some-count
+slice_bounds-some-count c = let to : Ran c.args.questions.now c.loop-i.i c.run_end-to.result = ran _ _ _ c.loop-i-test.true c.requires.never_falls c.run_end-to.ensures in
+    omega (arith, to.some)
+
+pub slice_bounds-some-start : goal.slice_bounds-some-start
+slice_bounds-some-start c = let to : Ran c.args.questions.now c.loop-i.i c.run_end-to.result = ran _ _ _ c.loop-i-test.true c.requires.never_falls c.run_end-to.ensures in
+    omega (arith, to.some)
+
+pub slice_bounds-some-end : goal.slice_bounds-some-end
+slice_bounds-some-end c = let to : Ran c.args.questions.now c.loop-i.i c.run_end-to.result = ran _ _ _ c.loop-i-test.true c.requires.never_falls c.run_end-to.ensures in
+    omega (arith, to.within)

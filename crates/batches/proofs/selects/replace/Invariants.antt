@@ -1,0 +1,10 @@
+-- `selects::replace` meets its contract. Assumes nothing.
+use Rattle.std.proofs.Common.{◌-◌, length}
+use Rattle.batches.proofs.SelectLaws.{Replacing}
+use Rattle.batches.proofs.selects.replace.Given as goal
+
+abbrev pub invariant-loop-i : goal.invariant-loop-i
+invariant-loop-i l = Replacing l.bytes l.directory l.record l.initial.ranks l.ranks l.block l.i
+
+abbrev pub decreases-loop-i : goal.decreases-loop-i
+decreases-loop-i l = length l.initial.ranks - l.i

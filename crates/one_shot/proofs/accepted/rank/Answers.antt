@@ -1,0 +1,36 @@
+-- `one_shot::accepted::rank` meets its contract: the rows before the row's block, and the block's. Assumes nothing.
+use mathlib.Core.Path.{sym, ◌∙◌}
+use native.Mathlib.Omega.{arith}
+use borrow.Author.Rules.{rules}
+use Prim.Native.Nat.{◌+◌, ◌^◌, ◌<◌}
+use Rattle.spec.proofs.Questions.{rank_all}
+use Rattle.one_shot.proofs.AnswerLaws.{opens, rise, populated', entries_fit, block_within, rank_is, rank_fits}
+use Rattle.one_shot.proofs.accepted.rank.Goals as goal
+
+pub returns-then-record-row : goal.returns-then-record-row
+returns-then-record-row c =
+    λ h gs v. let o = opens _ _ (λ i. (c.type_inv.bytes i).fits) c.requires h gs v in
+    populated' o ∙ sym (rank_all _ _ _ (rise o) _ c.if-record-row.true)
+
+pub of_block-spot-requires : goal.of_block-spot-requires
+of_block-spot-requires c = entries_fit _ _ (λ i. (c.type_inv.bytes i).fits) c.requires
+
+pub part-requires : goal.part-requires
+part-requires c = block_within _ _ (λ i. (c.type_inv.bytes i).fits) c.requires _ _ c.of_block-spot.ensures
+
+pub returns : goal.returns
+returns c =
+    λ h gs v. 
+    let o = opens _ _ (λ i. (c.type_inv.bytes i).fits) c.requires h gs v in
+    rank_is o _ _ c.of_block-spot.ensures _ (λ ps x. c.rank-below.ensures ps (rw c.part.ensures x))
+
+pub rank-below-requires : goal.rank-below-requires
+rank-below-requires c = search rules
+
+pub overflow_add-result : goal.overflow_add-result
+overflow_add-result c = let small : c.of_block-spot.result.rows + c.rank-below.result < 2 ^ 32 = rank_fits _ _ (λ i. (c.type_inv.bytes i).fits) c.requires _ c.args.row (λ h gs o. rank_is o _ _ c.of_block-spot.ensures _ (λ ps x. c.rank-below.ensures ps (rw c.part.ensures x))) in
+    omega (arith, small)
+
+pub overflow_cast-result-2 : goal.overflow_cast-result-2
+overflow_cast-result-2 c = let small : c.of_block-spot.result.rows + c.rank-below.result < 2 ^ 32 = rank_fits _ _ (λ i. (c.type_inv.bytes i).fits) c.requires _ c.args.row (λ h gs o. rank_is o _ _ c.of_block-spot.ensures _ (λ ps x. c.rank-below.ensures ps (rw c.part.ensures x))) in
+    omega (arith, small)

@@ -1,0 +1,81 @@
+use Prim.Native.Nat.{◌+◌, ◌≤◌}
+use mathlib.Core.Path.{◌≡◌, ap, ◌∙◌}
+use native.Mathlib.Omega.{arith}
+use borrow.Author.Rules.{rules}
+use lib.ListN.{length}
+use lib.Seq.{length-sets}
+use Rattle.spec.specs.Reading.{entry_count}
+use Rattle.judging.proofs.EntryLaws.{Right}
+use Rattle.judging.proofs.JudgeLaws.{entry_count_back}
+use Rattle.opening.proofs.FillLaws.{fill_end, fill_right, fill_small, fill_more}
+use Rattle.opening.proofs.OpenLaws.{Filled, filled, fill_start}
+use Rattle.opening.proofs.fill.Goals as goal
+
+pub overflow_sub-end : goal.overflow_sub-end
+overflow_sub-end c =
+    let has : Filled c.args.bytes.now c.args.row_count = filled _ _ (λ i. (c.type_inv.bytes i).fits) c.requires.accepts in
+    omega (arith, has.fits)
+
+pub u16_at-left-requires : goal.u16_at-left-requires
+u16_at-left-requires c =
+    let has : Filled c.args.bytes.now c.args.row_count = filled _ _ (λ i. (c.type_inv.bytes i).fits) c.requires.accepts in
+    omega (arith, has.fits)
+
+pub overflow_sub-at : goal.overflow_sub-at
+overflow_sub-at c =
+    let has : Filled c.args.bytes.now c.args.row_count = filled _ _ (λ i. (c.type_inv.bytes i).fits) c.requires.accepts in
+    let counted : c.u16_at-left.result ≡ entry_count c.args.bytes.now = entry_count_back c.args.bytes.now _ (omega (arith, has.fits)) c.u16_at-left.ensures in
+    omega (arith, counted, has.fits)
+
+pub loop-left-init : goal.loop-left-init
+loop-left-init c =
+    let has : Filled c.args.bytes.now c.args.row_count = filled _ _ (λ i. (c.type_inv.bytes i).fits) c.requires.accepts in
+    let counted : c.u16_at-left.result ≡ entry_count c.args.bytes.now = entry_count_back c.args.bytes.now _ (omega (arith, has.fits)) c.u16_at-left.ensures in
+    fill_start _ _ _ _ has counted
+
+pub entry_at-x-requires : goal.entry_at-x-requires
+entry_at-x-requires c = omega (arith, c.loop-left.invariant.entries.within)
+
+pub put_pairs-requires : goal.put_pairs-requires
+put_pairs-requires c =
+    let next : Right c.args.row_count c.loop-left.block c.entry_at-x.result = fill_right c.loop-left.invariant c.entry_at-x.result (omega arith) c.entry_at-x.ensures in
+    let n = next in
+    (omega (arith, n.from), omega (arith, n.inside, c.loop-left.invariant.long, c.requires.room))
+
+pub overflow_add-rows : goal.overflow_add-rows
+overflow_add-rows c =
+    let s = fill_small c.loop-left.invariant c.entry_at-x.result (omega arith) c.entry_at-x.ensures in
+    omega (arith, s.few)
+
+pub loop-left-preserved : goal.loop-left-preserved
+loop-left-preserved c =
+    fill_more c.loop-left.invariant c.entry_at-x.result (omega arith) c.entry_at-x.ensures _ _ c.data_size.ensures
+    c.put_pairs.ensures
+
+pub put_pairs-requires-2 : goal.put_pairs-requires-2
+put_pairs-requires-2 c =
+    (omega (arith, c.loop-left.invariant.small.blocks, c.block_count-blocks.ensures), omega (arith, c.loop-left.invariant.long, c.block_count-blocks.ensures, c.requires.room))
+
+pub shape_of-directory : goal.shape_of-directory
+shape_of-directory c = ap length c.put_pairs-2.ensures ∙ simp length-sets c.loop-left.invariant.long
+
+pub returns : goal.returns
+returns c =
+    c.put_pairs-2.ensures ∙ rw c.block_count-blocks.ensures (fill_end c.loop-left.invariant (omega arith))
+
+pub data_size-requires : goal.data_size-requires
+data_size-requires c = search rules
+
+pub overflow_cast-size : goal.overflow_cast-size
+overflow_cast-size c = let few : c.loop-left.size + c.data_size.result ≤ 671088640 = let s = fill_small c.loop-left.invariant c.entry_at-x.result (omega arith) c.entry_at-x.ensures in omega (arith, s.bytes', s.blocks, c.data_size.ensures) in
+    omega (arith, few)
+
+pub overflow_add-size : goal.overflow_add-size
+overflow_add-size c = let few : c.loop-left.size + c.data_size.result ≤ 671088640 = let s = fill_small c.loop-left.invariant c.entry_at-x.result (omega arith) c.entry_at-x.ensures in omega (arith, s.bytes', s.blocks, c.data_size.ensures) in
+    omega (arith, few)
+
+pub block_count-blocks-requires : goal.block_count-blocks-requires
+block_count-blocks-requires c = search rules
+
+pub overflow_add-blocks : goal.overflow_add-blocks
+overflow_add-blocks c = omega (arith, c.block_count-blocks.ensures)

@@ -1,0 +1,34 @@
+-- `opening::open` meets its contract: nothing is written before every check has passed. Assumes nothing.
+use mathlib.Core.Path.{◌≡◌, sym, ap, ◌∙◌}
+use native.Mathlib.Omega.{arith}
+use borrow.Author.Rules.{rules}
+use Rattle.spec.specs.Answers.{value, opened}
+use Rattle.spec.specs.Reading.{verdict}
+use Rattle.judging.specs.Phases.{judged}
+use Rattle.opening.proofs.OpenLaws.{accepted, owes_refusal, owes_room, owes_index}
+use Rattle.opening.proofs.open.Goals as goal
+
+pub returns-in-Refused : goal.returns-in-Refused
+returns-in-Refused c = owes_refusal _ _ _ (sym (ap opened c.in-Refused.is) ∙ c.judge.ensures)
+
+pub returns-then-directory-block_count : goal.returns-then-directory-block_count
+returns-then-directory-block_count c =
+    let judges : value c.in-Index.«record» ≡ judged (verdict c.args.bytes.now) = sym (ap opened c.in-Index.is) ∙ c.judge.ensures in
+    owes_room _ _ _ (accepted _ _ judges).0 (omega (arith, c.block_count.ensures))
+
+pub fill-requires : goal.fill-requires
+fill-requires c =
+    let judges : value c.in-Index.«record» ≡ judged (verdict c.args.bytes.now) = sym (ap opened c.in-Index.is) ∙ c.judge.ensures in
+    record { accepts = (accepted _ _ judges).0; room = omega (arith, c.block_count.ensures) }
+
+pub returns-else-directory-block_count : goal.returns-else-directory-block_count
+returns-else-directory-block_count c =
+    let judges : value c.in-Index.«record» ≡ judged (verdict c.args.bytes.now) = sym (ap opened c.in-Index.is) ∙ c.judge.ensures in
+    let a = accepted _ _ judges in
+    rw c.fill.ensures (owes_index _ _ _ a.0 _ a.1 (omega (arith, c.block_count.ensures)))
+
+pub judge-requires : goal.judge-requires
+judge-requires c = search rules
+
+pub block_count-requires : goal.block_count-requires
+block_count-requires c = search rules
