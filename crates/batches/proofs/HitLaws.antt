@@ -4,7 +4,7 @@ use native.Mathlib.Omega.{by_contra}
 use lib.ListN.{length-map}
 use lib.Seq.{drop-append-add, sets}
 use Rattle.spec.specs.declared.Record.{Record}
-use Rattle.spec.specs.Set.{contains, rank, lookup, hits, ranks}
+use Rattle.spec.specs.Set.{contains, rank, hits, ranks}
 use Rattle.spec.specs.Layout.{size, Block, rows_of}
 use Rattle.spec.specs.Reading.{AreBytes, part, Head, Given}
 use Rattle.spec.proofs.Bytes.{length_part, get_d_part}

@@ -2,7 +2,7 @@
 use Rattle.std.proofs.Common.{◌≡◌, ℕ, zero, suc, ◌+◌, ◌-◌, ◌*◌, ◌/◌, ◌%◌, ◌<◌, leb, List, [], ◌++◌, length, sym, refl, ap, ◌∙◌, ap₂, append_assoc, append-nil, add-zero, suc-add, zero-add, arith, length-append, leb-false, leb-true}
 use Rattle.spec.specs.Set.{contains, rank}
 use Rattle.spec.specs.Layout.{bytes_of, size, word, mini_block, mini_blocks}
-use Rattle.spec.specs.Reading.{number_in, part, bits, word_at, count_at}
+use Rattle.spec.specs.Reading.{number_in, bits, word_at, count_at}
 use Rattle.spec.proofs.Tests.{by_test}
 use Rattle.spec.proofs.Bytes.{length_bytes, number_bytes, part_at, longer}
 use Rattle.spec.proofs.Rising.{Rising, rising_facts}

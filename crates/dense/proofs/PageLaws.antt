@@ -5,7 +5,7 @@ use lib.ListN.{length-map}
 use lib.Seq.{drop-append-le, drop-append-add}
 use lib.Bits.{bit_and, and_le_l}
 use lib.Count.{count_trailing_zeros}
-use Rattle.spec.specs.Set.{rank, page}
+use Rattle.spec.specs.Set.{rank}
 use Rattle.spec.specs.Layout.{size, word_from, word}
 use Rattle.spec.specs.Reading.{bits, word_at}
 use Rattle.spec.proofs.Rising.{Rising}

@@ -3,7 +3,7 @@ use Rattle.std.proofs.Common.{◌≡◌, ℕ, ◌+◌, ◌*◌, ◌<◌, ◌≤�
 use lib.Count.{ones}
 use lib.Seq.{sets, sets-eq, length-sets}
 use Rattle.spec.specs.Set.{rank}
-use Rattle.spec.specs.Layout.{size, word, mini_block, mini_blocks, dense_data, bytes_of}
+use Rattle.spec.specs.Layout.{size, mini_block, mini_blocks, dense_data, bytes_of}
 use Rattle.spec.proofs.Rising.{Rising}
 use Rattle.spec.proofs.Questions.{rank_low, rank_all, rank_le_sub}
 use Rattle.spec.proofs.Content.{length_mini}

@@ -12,7 +12,7 @@ use lib.Bits.{bit_and, bit_or, and_mask, and_high, or_add_and}
 use lib.Count.{ones, ones_step}
 use lib.Pow.{pow_pos, shl_exact, shr-shr, field, mod-mod-pow}
 use borrow.Author.Tests.{eq-eqb, ne_eqb, eqb-true, eqb-false, lt-ltb}
-use Rattle.spec.specs.Set.{contains, rank, below}
+use Rattle.spec.specs.Set.{contains, rank}
 use Rattle.spec.specs.Reading.{bits}
 use Rattle.spec.proofs.Tests.{by_test}
 use Rattle.spec.proofs.Questions.{contains_before, rank_low, rank_all}

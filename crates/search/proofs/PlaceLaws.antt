@@ -6,7 +6,6 @@ use native.Mathlib.Omega.{arith}
 use lib.ListN.{length, get_or, take, drop, length-take, length-drop}
 use lib.Seq.{ext_get_or, drop-drop, take-take, take-nil}
 use Rattle.spec.specs.Reading.{number_in, part, sparse_places}
-use Rattle.spec.specs.Reading as reading
 use Rattle.spec.proofs.Bytes.{length_part, get_d_part}
 use Rattle.search.specs.Search.{places_said}
 

@@ -1,6 +1,5 @@
-use Rattle.std.proofs.Common.{◌-◌, ◌^◌, ◌<◌, sym, ◌∙◌, arith}
+use Rattle.std.proofs.Common.{◌^◌, ◌<◌, sym, ◌∙◌, arith}
 use lib.Count.{ones-le}
-use borrow.Author.Tests.{not-true, not-false}
 use Rattle.dense.proofs.ContentLaws.{none_checked, seen_le, all_checked, wrong_count, wrong_word, one_checked}
 use Rattle.dense.proofs.content_ok.Goals as goal
 

@@ -1,4 +1,4 @@
-use Rattle.std.proofs.Common.{◌+◌, ◌-◌, ◌/◌, ◌%◌, ◌<◌, arith}
+use Rattle.std.proofs.Common.{◌+◌, ◌/◌, ◌%◌, ◌<◌, arith}
 use lib.Arith.{lt_of_le-ne}
 use Rattle.dense.proofs.NextLaws.{first, seek_first, seek_more, seek_none, seek_found}
 use Rattle.dense.proofs.next.Goals as goal

@@ -1,4 +1,4 @@
-use Rattle.std.proofs.Common.{◌-◌, ◌%◌, ◌^◌, sym, refl, ap, ◌∙◌, arith}
+use Rattle.std.proofs.Common.{◌%◌, ◌^◌, sym, refl, ap, ◌∙◌, arith}
 use lib.ListN.{length-map}
 use lib.Count.{ones-le}
 use Rattle.spec.specs.Layout.{size}

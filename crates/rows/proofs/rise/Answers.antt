@@ -1,4 +1,3 @@
-use Prim.Native.Nat.{◌-◌}
 use native.Mathlib.Omega.{arith}
 use Rattle.rows.proofs.RowLaws.{flag_start, flag_falls, flag_rises, flag_end}
 use Rattle.rows.proofs.rise.Goals as goal
@@ -11,8 +10,8 @@ pub loop-i-preserved : goal.loop-i-preserved
 loop-i-preserved c =
     let f = c.loop-i.invariant in
     elim c.if-rows-i.branch [
-      then-rows-i w ↦ rw w.ok-is (flag_falls f (omega arith) w.if-rows-i.true)
-    | else-rows-i w ↦ rw w.ok-is (flag_rises f (omega arith) w.if-rows-i.false)
+      | then-rows-i w ↦ rw w.ok-is (flag_falls f (omega arith) w.if-rows-i.true)
+      | else-rows-i w ↦ rw w.ok-is (flag_rises f (omega arith) w.if-rows-i.false)
     ]
 
 pub returns : goal.returns

@@ -1,4 +1,3 @@
-use Prim.Native.Nat.{◌-◌}
 use mathlib.Core.Path.{◌∙◌}
 use native.Mathlib.Omega.{arith}
 use Rattle.sparse.proofs.ContentLaws.{checking_none, checking_more, checking_all, checked_none, content}

@@ -1,4 +1,3 @@
-use Prim.Native.Nat.{◌-◌}
 use native.Mathlib.Omega.{arith}
 use Rattle.sparse.proofs.PageLaws.{list_none, list_more, list_end, list_short}
 use Rattle.sparse.proofs.page.Goals as goal

@@ -1,4 +1,4 @@
-use Rattle.std.proofs.Common.{◌-◌, arith}
+use Rattle.std.proofs.Common.{arith}
 use Rattle.batches.proofs.HitLaws.{seeking_none, seeking_hit, seeking_miss, seeking_all}
 use Rattle.batches.proofs.lookups.in_order.Goals as goal
 

@@ -1,4 +1,4 @@
-use Rattle.std.proofs.Common.{◌-◌, add-zero, arith}
+use Rattle.std.proofs.Common.{add-zero, arith}
 use Rattle.spec.specs.Reading.{part}
 use Rattle.batches.proofs.HitLaws.{length_tail, seeking_none, seeking_all, seeking_past, seeking_run, Ran, ran}
 use Rattle.batches.proofs.lookups.sorted.Goals as goal
@@ -28,10 +28,15 @@ in_block-n-requires c =
     let l = c.loop-i in
     let r = to in
     let f = l.invariant.loose in
-    let many = r.many in record { unbroken = c.requires.unbroken; block_below = omega (arith, c.if-record-row.false); never_falls = (r.falls, r.block); room = (
-            omega (arith, length_tail l.n l.rows, f.fewer, f.rows_long, r.within, c.requires.room.0),
-            omega (arith, length_tail l.n l.ranks, f.fewer, f.ranks_long, r.within, c.requires.room.1),
-          ) }
+    let many = r.many in record {
+      unbroken = c.requires.unbroken;
+      block_below = omega (arith, c.if-record-row.false);
+      never_falls = (r.falls, r.block);
+      room = (
+        omega (arith, length_tail l.n l.rows, f.fewer, f.rows_long, r.within, c.requires.room.0),
+        omega (arith, length_tail l.n l.ranks, f.fewer, f.ranks_long, r.within, c.requires.room.1),
+      );
+    }
 
 pub overflow_add-n : goal.overflow_add-n
 unfolding part

@@ -17,18 +17,18 @@ entry_at-x-requires c = omega (arith, c.loop-left.invariant.walk.within)
 
 pub overflow_add-to : goal.overflow_add-to
 overflow_add-to c =
-    let inside : c.loop-left.«data» + c.data_size.result ≤ length c.args.bytes.now = let x = c.entry_at-x in omega ( arith, c.requires.within, checking_inside c.loop-left.invariant x.result (omega arith) x.ensures c.data_size.result c.data_size.ensures, ) in
+    let inside : c.loop-left.«data» + c.data_size.result ≤ length c.args.bytes.now = let x = c.entry_at-x in omega (arith, c.requires.within, checking_inside c.loop-left.invariant x.result (omega arith) x.ensures c.data_size.result c.data_size.ensures) in
     omega (arith, inside)
 
 pub slice_bounds-content_ok-end : goal.slice_bounds-content_ok-end
 slice_bounds-content_ok-end c =
-    let inside : c.loop-left.«data» + c.data_size.result ≤ length c.args.bytes.now = let x = c.entry_at-x in omega ( arith, c.requires.within, checking_inside c.loop-left.invariant x.result (omega arith) x.ensures c.data_size.result c.data_size.ensures, ) in
+    let inside : c.loop-left.«data» + c.data_size.result ≤ length c.args.bytes.now = let x = c.entry_at-x in omega (arith, c.requires.within, checking_inside c.loop-left.invariant x.result (omega arith) x.ensures c.data_size.result c.data_size.ensures) in
     omega (arith, inside)
 
 pub content_ok-requires : goal.content_ok-requires
 unfolding part
 content_ok-requires c =
-    let inside : c.loop-left.«data» + c.data_size.result ≤ length c.args.bytes.now = let x = c.entry_at-x in omega ( arith, c.requires.within, checking_inside c.loop-left.invariant x.result (omega arith) x.ensures c.data_size.result c.data_size.ensures, ) in
+    let inside : c.loop-left.«data» + c.data_size.result ≤ length c.args.bytes.now = let x = c.entry_at-x in omega (arith, c.requires.within, checking_inside c.loop-left.invariant x.result (omega arith) x.ensures c.data_size.result c.data_size.ensures) in
     let h = c.loop-left.«data» in (
       length_part h (h + c.data_size.result) c.args.bytes.now (omega arith) inside ∙ omega (arith, c.data_size.ensures),
       omega (arith, c.rows_at-end.ensures),

@@ -2,7 +2,6 @@
 use mathlib.Core.Path.{sym}
 use native.Mathlib.Omega.{arith}
 use borrow.Author.Rules.{rules}
-use Rattle.spec.specs.Set.{next}
 use Rattle.spec.proofs.Questions.{next_past}
 use Rattle.one_shot.proofs.AnswerLaws.{opens, rise, entries_fit, few_blocks, block_within, next_here, next_none, next_later}
 use Rattle.one_shot.proofs.accepted.next.Goals as goal
@@ -29,20 +28,20 @@ of_block-later-requires c = entries_fit _ _ (λ i. (c.type_inv.bytes i).fits) c.
 
 pub returns-then-record-later : goal.returns-then-record-later
 returns-then-record-later c =
-    λ h gs v. 
+    λ h gs v.
     let o = opens _ _ (λ i. (c.type_inv.bytes i).fits) c.requires h gs v in
     next_none o _ _ c.of_block-spot.ensures _ (λ ps x. c.next.ensures.exact ps (rw c.part.ensures x)) c.in-Nothing.is
     _ c.of_block-later.ensures c.if-record-later.true
 
 pub returns-in-At : goal.returns-in-At
 returns-in-At c =
-    λ h gs v. 
+    λ h gs v.
     let o = opens _ _ (λ i. (c.type_inv.bytes i).fits) c.requires h gs v in
     next_here o _ _ c.of_block-spot.ensures _ (λ ps x. c.next.ensures.exact ps (rw c.part.ensures x)) _ c.in-At.is
 
 pub returns-else-record-later : goal.returns-else-record-later
 returns-else-record-later c =
-    λ h gs v. 
+    λ h gs v.
     let o = opens _ _ (λ i. (c.type_inv.bytes i).fits) c.requires h gs v in
     next_later o _ _ c.of_block-spot.ensures _ (λ ps x. c.next.ensures.exact ps (rw c.part.ensures x)) c.in-Nothing.is
     _ c.of_block-later.ensures c.if-record-later.false _ (c.select.ensures h gs v)

@@ -20,7 +20,7 @@ part-requires c = block_within _ _ (λ i. (c.type_inv.bytes i).fits) c.requires 
 
 pub returns : goal.returns
 returns c =
-    λ h gs v. 
+    λ h gs v.
     let o = opens _ _ (λ i. (c.type_inv.bytes i).fits) c.requires h gs v in
     rank_is o _ _ c.of_block-spot.ensures _ (λ ps x. c.rank-below.ensures ps (rw c.part.ensures x))
 

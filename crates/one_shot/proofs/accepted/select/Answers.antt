@@ -17,7 +17,7 @@ part-requires c =
 
 pub returns : goal.returns
 returns c =
-    λ h gs v. 
+    λ h gs v.
     let o = opens _ _ (λ i. (c.type_inv.bytes i).fits) c.requires.accepted h gs v in
     select_is o _ _ _ _ c.requires.k_below c.of_rank-spot.ensures refl (λ ps x. c.select.ensures.exact ps (rw c.part.ensures x))
 

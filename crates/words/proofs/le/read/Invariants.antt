@@ -1,6 +1,6 @@
 -- `words::le::read` meets its contract. The loop goes from the highest byte down; its invariant: n is the number in the bytes from k on.
 -- Assumes nothing.
-use Prim.Native.Nat.{◌+◌, ◌-◌, ◌≤◌}
+use Prim.Native.Nat.{◌+◌, ◌≤◌}
 use mathlib.Core.Path.{◌≡◌}
 use Rattle.spec.specs.Reading.{number_in, part}
 use Rattle.words.proofs.le.read.Given as goal

@@ -1,0 +1,14 @@
+-- `gateway::optional_index_contains` meets its contract: the number of the one-shot answer. Assumes nothing.
+use mathlib.Core.Path.{ap, ◌∙◌}
+use borrow.Author.Rules.{rules}
+use Rattle.spec.specs.Answers.{code}
+use Rattle.gateway.proofs.optional_index_contains.Goals as goal
+
+pub returns : goal.returns
+returns c = c.of_answer.ensures ∙ ap code c.contains_once.ensures
+
+pub contains_once-requires : goal.contains_once-requires
+contains_once-requires c = search rules
+
+pub of_answer-requires : goal.of_answer-requires
+of_answer-requires c = search rules

@@ -1,0 +1,14 @@
+-- `gateway::optional_index_rank` meets its contract: the number of the one-shot answer. Assumes nothing.
+use mathlib.Core.Path.{ap, ◌∙◌}
+use borrow.Author.Rules.{rules}
+use Rattle.spec.specs.Answers.{code}
+use Rattle.gateway.proofs.optional_index_rank.Goals as goal
+
+pub returns : goal.returns
+returns c = c.of_number.ensures ∙ ap code c.rank_once.ensures
+
+pub rank_once-requires : goal.rank_once-requires
+rank_once-requires c = search rules
+
+pub of_number-requires : goal.of_number-requires
+of_number-requires c = search rules
