@@ -1,6 +1,5 @@
 use mathlib.Core.Path.{sym, ◌∙◌}
 use native.Mathlib.Omega.{arith}
-use borrow.Author.Rules.{rules}
 use Rattle.cases.proofs.BatchLaws.{batching_none, batching_hit, batching_miss, batching_all}
 use Rattle.cases.proofs.set.lookup_batch.Goals as goal
 
@@ -23,9 +22,3 @@ shape_of-ranks c = c.loop-i.invariant.ranks_long
 
 pub returns : goal.returns
 returns c = batching_all c.loop-i.invariant c.loop-i-test.false (omega arith) (omega arith)
-
-pub contains-requires : goal.contains-requires
-contains-requires c = search rules
-
-pub rank-requires : goal.rank-requires
-rank-requires c = search rules
