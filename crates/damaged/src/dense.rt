@@ -1,12 +1,13 @@
 // Damage to a dense block: the file of all 5,120 rows of 5,120, whose data begin at byte 2. Mini-block 79 has the last rows.
 use codes::NONE;
 use spec::Count;
+use std::io;
 
-pub fn all() {
+pub fn all(rt: &impl Print) -> io::Result<()> {
     let mut rows = [0u32; 5120];
     let mut bytes = [0u8; 10248];
     count_up(&mut rows);
-    damage(&rows, &mut bytes);
+    damage(rt, &rows, &mut bytes)
 }
 
 fn count_up(rows: &mut [u32]) {
@@ -17,25 +18,25 @@ fn count_up(rows: &mut [u32]) {
     }
 }
 
-fn damage(rows: &[u32], bytes: &mut [u8]) {
+fn damage(rt: &impl Print, rows: &[u32], bytes: &mut [u8]) -> io::Result<()> {
     write(rows, bytes);
-    answer(b"all 5120 rows of 5120", bytes, 5120);
-    fewer(bytes);
-    moved(bytes);
+    answer(rt, b"all 5120 rows of 5120", bytes, 5120)?;
+    fewer(rt, bytes)?;
+    moved(rt, bytes)
 }
 
-fn fewer(bytes: &mut [u8]) {
+fn fewer(rt: &impl Print, bytes: &mut [u8]) -> io::Result<()> {
     set(bytes, 790, 9, 0x7F);
-    answer(b"a row less than the entry says", bytes, NONE + 8);
+    answer(rt, b"a row less than the entry says", bytes, NONE + 8)
 }
 
 // Row 5,119 taken away and row 5,120 put in its place: first the running count behind them is wrong, then the row alone.
-fn moved(bytes: &mut [u8]) {
+fn moved(rt: &impl Print, bytes: &mut [u8]) -> io::Result<()> {
     set(bytes, 800, 2, 1);
-    answer(b"a running count that is wrong", bytes, NONE + 8);
+    answer(rt, b"a running count that is wrong", bytes, NONE + 8)?;
     set(bytes, 800, 10, 0xFF);
     set(bytes, 800, 11, 0x13);
-    answer(b"row 5120 of 5120", bytes, NONE + 8);
+    answer(rt, b"row 5120 of 5120", bytes, NONE + 8)
 }
 
 fn write(rows: &[u32], bytes: &mut [u8]) {
@@ -45,9 +46,9 @@ fn write(rows: &[u32], bytes: &mut [u8]) {
     }
 }
 
-fn answer(name: &[u8], bytes: &[u8], due: u64) {
+fn answer(rt: &impl Print, name: &[u8], bytes: &[u8], due: u64) -> io::Result<()> {
     let mut words = [0u32; 4];
-    lines::answer(name, crate::open(bytes, &mut words), due);
+    lines::answer(rt, name, crate::open(bytes, &mut words), due)
 }
 
 // Stores a byte of a mini-block, which begins at byte mini behind the row count.

@@ -4,85 +4,81 @@
 ghost use Rattle.std.specs.Prelude.{◌≡◌, true};
 
 use codes::NONE;
-use libc::STDOUT_FILENO;
+use std::io;
 
 // Prints the line of an answer, which is given by its C number: a value, "none", or a refusal.
-pub fn answer(name: &[u8], came: u64, due: u64) {
-    begin(name);
+pub fn answer(rt: &impl Print, name: &[u8], came: u64, due: u64) -> io::Result<()> {
+    begin(rt, name)?;
     if came < NONE {
-        print(came);
+        print(rt, came)?;
     } else if came == NONE {
-        io::write_all(STDOUT_FILENO, b" none");
+        rt.write_all(b" none")?;
     } else {
-        io::write_all(STDOUT_FILENO, b" refused");
-        print(came - NONE);
+        rt.write_all(b" refused")?;
+        print(rt, came - NONE)?;
     }
-    end(came == due);
+    end(rt, came == due)
 }
 
 // Prints the line of a plain number.
-pub fn number(name: &[u8], came: u64, due: u64) {
-    begin(name);
-    print(came);
-    end(came == due);
+pub fn number(rt: &impl Print, name: &[u8], came: u64, due: u64) -> io::Result<()> {
+    begin(rt, name)?;
+    print(rt, came)?;
+    end(rt, came == due)
 }
 
 // Prints the line of a list.
-pub fn list(name: &[u8], came: &[u32], due: &[u32]) {
-    begin(name);
-    print_all(came);
-    end(same(came, due));
+pub fn list(rt: &impl Print, name: &[u8], came: &[u32], due: &[u32]) -> io::Result<()> {
+    begin(rt, name)?;
+    print_all(rt, came)?;
+    end(rt, same(came, due))
 }
 
 // Prints the line of bytes.
-pub fn bytes(name: &[u8], came: &[u8], due: &[u8]) {
-    begin(name);
-    print_bytes(came);
-    end(check::same(came, due));
+pub fn bytes(rt: &impl Print, name: &[u8], came: &[u8], due: &[u8]) -> io::Result<()> {
+    begin(rt, name)?;
+    print_bytes(rt, came)?;
+    end(rt, check::same(came, due))
 }
 
 // Prints the name.
-fn begin(name: &[u8]) {
-    io::write_all(STDOUT_FILENO, name);
-    io::write_all(STDOUT_FILENO, b":");
+fn begin(rt: &impl Print, name: &[u8]) -> io::Result<()> {
+    rt.write_all(name)?;
+    rt.write_all(b":")
 }
 
 // Prints the verdict, which is what makes a run fail: the stored output has no WRONG.
-fn end(is_right: bool) {
+fn end(rt: &impl Print, is_right: bool) -> io::Result<()> {
     if is_right {
-        io::write_all(STDOUT_FILENO, b" ok\n");
+        rt.write_all(b" ok\n")
     } else {
-        io::write_all(STDOUT_FILENO, b" WRONG\n");
+        rt.write_all(b" WRONG\n")
     }
 }
 
 // Prints a number after a space.
-fn print(n: u64) {
-    io::write_all(STDOUT_FILENO, b" ");
-    io::print_decimal(STDOUT_FILENO, n);
+fn print(rt: &impl Print, n: u64) -> io::Result<()> {
+    print!(rt; " {n}")
 }
 
 // Prints the numbers of a list, each after a space.
-fn print_all(numbers: &[u32]) {
-    let mut i = 0;
-    while i < numbers.len() {
-        print(numbers[i] as u64);
-        i += 1;
+fn print_all(rt: &impl Print, numbers: &[u32]) -> io::Result<()> {
+    for n in numbers {
+        print(rt, *n as u64)?;
     }
+    Ok(())
 }
 
 // Prints bytes in hex, each after a space.
-fn print_bytes(bytes: &[u8]) {
-    let mut i = 0;
-    while i < bytes.len() {
-        print_byte(bytes[i]);
-        i += 1;
+fn print_bytes(rt: &impl Print, bytes: &[u8]) -> io::Result<()> {
+    for b in bytes {
+        print_byte(rt, *b)?;
     }
+    Ok(())
 }
 
-fn print_byte(b: u8) {
-    io::write_all(STDOUT_FILENO, b" ");
-    io::print_hex(STDOUT_FILENO, b as u64, 2);
+fn print_byte(rt: &impl Print, b: u8) -> io::Result<()> {
+    print!(rt; " {b:02x}")
 }
 
 // Whether two lists are the same.
