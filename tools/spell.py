@@ -24,6 +24,7 @@ AGAIN = {
     "entry-bytes": "entry_to_bytes",
     "entry-count": "entry_count_back",
     "entryOk": "is_entry",
+    "getD-part": "get_or_part",
     "mini-bytes": "mini_to_bytes",
     "word-from": "word_from_place",
 }

@@ -7,7 +7,7 @@ use Rattle.spec.specs.declared.Record.{Record}
 use Rattle.spec.specs.Set.{contains, rank, hits, ranks}
 use Rattle.spec.specs.Layout.{size, Block, rows_of}
 use Rattle.spec.specs.Reading.{AreBytes, part, Head, Given}
-use Rattle.spec.proofs.Bytes.{length_part, get_d_part}
+use Rattle.spec.proofs.Bytes.{length_part, get_or_part}
 use Rattle.spec.proofs.Questions.{lookup_found, lookup_none, contains_past}
 use Rattle.spec.proofs.Directory.{given_rise}
 use Rattle.words.specs.declared.Place.{Place}
@@ -95,7 +95,7 @@ module _ {file directory : List ℕ} {rec : Record} {qs rows₀ ranks₀ rows ra
   past y order h l hd gs g =
       hits_none (rows_of gs) (part i (length qs) qs) (λ j m.
       let k : j < length qs - i = omega (arith, length_part i (length qs) qs (omega arith) (omega arith)) in
-      ap (λ q. contains q (rows_of gs)) (get_d_part i (length qs) qs j k)
+      ap (λ q. contains q (rows_of gs)) (get_or_part i (length qs) qs j k)
       ∙ contains_past 0 rec.row_count (rows_of gs) (given_rise file directory rec hd gs y g) (get_or qs (i + j) 0)
       (omega (arith, order i (i + j) (omega arith) (omega arith))))
 
@@ -160,8 +160,8 @@ ran qs i e h order below =
       within = below.within;
       many = many;
       falls = λ a b m k.
-          rw (get_d_part i e qs a (omega arith), get_d_part i e qs b (omega arith)) (order (i + a) (i + b) (omega arith) (omega (arith, below.within)));
+          rw (get_or_part i e qs a (omega arith), get_or_part i e qs b (omega arith)) (order (i + a) (i + b) (omega arith) (omega (arith, below.within)));
       block = λ j k.
-          rw (get_d_part i e qs j (omega arith))
+          rw (get_or_part i e qs j (omega arith))
           (omega (arith, order i (i + j) (omega arith) (omega (arith, below.within)), below.before (i + j) (omega (arith, below.within))));
     }

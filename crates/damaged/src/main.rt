@@ -1,7 +1,7 @@
 // Files that are opened: good ones, with their record and directory, and damaged ones, each the smallest that shows its refusal.
 #![tactic(auto)]
 
-mod dense;
+mod dense_block;
 
 use codes::NONE;
 use spec::{Number, Opened};
@@ -15,7 +15,7 @@ fn main(rt: HostRuntime) -> io::Result<()> {
     length(&rt)?;
     content(&rt)?;
     room(&rt)?;
-    dense::all(&rt)
+    dense_block::all(&rt)
 }
 
 // The directory lies at the front, and further words stay.

@@ -9,7 +9,7 @@ use lib.Seq.{drop-drop}
 use Rattle.spec.specs.Layout.{size, blocks}
 use Rattle.spec.specs.Reading.{part}
 use Rattle.spec.proofs.Rising.{Rising, rising_true, rising_lower, rising_steps, rising_take}
-use Rattle.spec.proofs.Bytes.{length_part, get_d_part}
+use Rattle.spec.proofs.Bytes.{length_part, get_or_part}
 use Rattle.spec.proofs.Blocks.{blocks_run}
 use Rattle.rows.specs.Runs.{ascends, Below, places, Run}
 use Rattle.rows.proofs.RowLaws.{ascends_rising}
@@ -51,7 +51,7 @@ module _ (end i e : ℕ) (rows : List ℕ) (r : Rising 0 end rows) (h : i < leng
       let s = run_some in
       let n = run_long in
       let w = b.within in
-      rw (get_d_part i e rows j (omega arith))
+      rw (get_or_part i e rows j (omega arith))
       (omega (arith, b.before (i + j) (omega arith), rising_steps i (i + j) 0 end rows (omega arith) (omega arith) r))
 
   run : Run rows i e

@@ -6,7 +6,7 @@ use native.Mathlib.Omega.{arith}
 use lib.ListN.{length, get_or, take, drop, length-take, length-drop}
 use lib.Seq.{ext_get_or, drop-drop, take-take, take-nil}
 use Rattle.spec.specs.Reading.{number_in, part, sparse_places}
-use Rattle.spec.proofs.Bytes.{length_part, get_d_part}
+use Rattle.spec.proofs.Bytes.{length_part, get_or_part}
 use Rattle.search.specs.Search.{places_said}
 
 -- ---- of any bytes
@@ -68,4 +68,4 @@ module _ (bs : List ℕ) (a e : ℕ) (ends : a ≤ e) (inside : e ≤ length bs 
   places_cut =
       let n : length (places_said (cut bs a e)) ≡ e - a = length_places (cut bs a e) ∙ length_cut in
       ext_get_or 0 (places_said (cut bs a e)) (part a e (places_said bs)) (n ∙ sym (length_part a e (places_said bs) ends (omega (arith, length_places bs))))
-      (λ i h. let l : i < e - a = omega arith in place_cut i l ∙ sym (get_d_part a e (places_said bs) i l))
+      (λ i h. let l : i < e - a = omega arith in place_cut i l ∙ sym (get_or_part a e (places_said bs) i l))

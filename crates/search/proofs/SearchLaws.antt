@@ -11,7 +11,7 @@ use Rattle.spec.specs.Set.{rising, contains, rank, select}
 use Rattle.spec.specs.Layout.{size}
 use Rattle.spec.specs.Reading.{part}
 use Rattle.spec.proofs.Tests.{by_test}
-use Rattle.spec.proofs.Bytes.{length_part, get_d_part}
+use Rattle.spec.proofs.Bytes.{length_part, get_or_part}
 use Rattle.spec.proofs.Rising.{Rising, rising_facts, rising_true, rising_steps, rising_take, rising_drop}
 use Rattle.spec.proofs.Questions.{contains_absent, member_contains, rank_is, rank_le, rank_lt, rank_select, select_rank, rank_below, rank_above}
 use Rattle.search.specs.Search.{places_said, answer, index_of, shifted, AllBelow, Finds, Near}
@@ -138,13 +138,13 @@ rising_part a e ps h = rising_true 0 size (take (e - a) (drop a ps)) (rising_tak
 
 module _ (ps : List ℕ) (t a e : ℕ) (ends : a ≤ e) (inside : e ≤ length ps) where
   part_at : (k : ℕ) → a ≤ k → k < e → get_or (part a e ps) (k - a) 0 ≡ get_or ps k 0
-  part_at k h l = let e : a + (k - a) ≡ k = omega arith in get_d_part a _ ps (k - a) (omega arith) ∙ rw e
+  part_at k h l = let e : a + (k - a) ≡ k = omega arith in get_or_part a _ ps (k - a) (omega arith) ∙ rw e
 
   -- found or not, counted from the start of the whole, it is the same
   narrow : Near ps t a e → (r : Search) → Stands (part a e ps) t r → Stands ps t (shifted a r)
   narrow near (Found i) s =
       let l : i < e - a = omega (arith, s.0, length_part a e ps ends inside) in
-      (omega arith, sym (get_d_part a e ps i l) ∙ s.1)
+      (omega arith, sym (get_or_part a e ps i l) ∙ s.1)
   narrow near (Insert i) s =
       let n : length (part a e ps) ≡ e - a = length_part a e ps ends inside in
       let l : i ≤ e - a = omega (arith, s.0) in (

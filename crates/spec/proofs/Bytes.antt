@@ -70,16 +70,16 @@ part_join a b c bs h k =
     sym (ap (λ n. take n (drop a bs)) (sym f) ∙ take-add (b - a) (c - b) (drop a bs)
     ∙ ap (λ l. take (b - a) (drop a bs) ++ take (c - b) l) (drop-drop (b - a) a bs ∙ ap (λ n. drop n bs) e))
 
-pub get_d_part : (a b : ℕ) (bs : List ℕ) (i : ℕ) → i < b - a → get_or (part a b bs) i 0 ≡ get_or bs (a + i) 0
+pub get_or_part : (a b : ℕ) (bs : List ℕ) (i : ℕ) → i < b - a → get_or (part a b bs) i 0 ≡ get_or bs (a + i) 0
 unfolding part
-get_d_part a b bs i h = get_or-take (b - a) (drop a bs) i 0 h ∙ get_or-drop a bs i 0
+get_or_part a b bs i h = get_or-take (b - a) (drop a bs) i 0 h ∙ get_or-drop a bs i 0
 
 pub bytes_part : (a b : ℕ) (bs : List ℕ) → AreBytes bs → AreBytes (part a b bs)
 unfolding part
 bytes_part a b bs y i = go (ltb i (b - a)) refl
   where
     go : (t : Bool) → ltb i (b - a) ≡ t → get_or (part a b bs) i 0 < 256
-    go true e = rw (get_d_part a b bs i (ltb-true i (b - a) e)) (y (a + i))
+    go true e = rw (get_or_part a b bs i (ltb-true i (b - a) e)) (y (a + i))
     go false e =
         let l : length (part a b bs) ≤ i = omega (arith, length-take (b - a) (drop a bs), ltb-false i (b - a) e) in
         rw (get_or-eq_default (part a b bs) 0 l) (omega arith)

@@ -14,7 +14,7 @@ use Rattle.spec.specs.declared.Entry.{Entry}
 use Rattle.spec.specs.Layout.{bytes_of, groups, entry_bytes, Block, all_data, entry_of, all_entries, written}
 use Rattle.spec.specs.Reading.{limit, count_of_blocks, rows_at, AreBytes, part, Head, padded, entry_in, entries_at, entries_ok, size_of_data, data_sizes, is_content, contents_ok, blocks_at, Verdict, holds, entry_count, entry_start, entries_of, verdict}
 use Rattle.spec.proofs.Tests.{by_test, and_true, true_and}
-use Rattle.spec.proofs.Bytes.{length_part, part_join, part_none, part_all, bytes_part, part_number, get_d_part, bytes_back}
+use Rattle.spec.proofs.Bytes.{length_part, part_join, part_none, part_all, bytes_part, part_number, get_or_part, bytes_back}
 use Rattle.spec.proofs.RowCount.{head_of, Headed, headed}
 use Rattle.spec.proofs.Content.{Block-written, block_written}
 use Rattle.spec.proofs.Blocks.{Well}
@@ -91,7 +91,7 @@ module _ (file : List ℕ) (h : Head) (y : AreBytes file) (p : head_in file ≡ 
   last_alone : get_or (part 0 (length file - 2) file) (h.start - 1) 0 ≡ 128 → h.start ≡ 1
   last_alone e =
       let w = read_within in
-      let f : get_or file (h.start - 1) 0 ≡ 128 = ap (λ i. get_or file i 0) (sym (zero-add (h.start - 1))) ∙ sym (get_d_part 0 (length file - 2) file (h.start - 1) (omega arith)) ∙ e in
+      let f : get_or file (h.start - 1) 0 ≡ 128 = ap (λ i. get_or file i 0) (sym (zero-add (h.start - 1))) ∙ sym (get_or_part 0 (length file - 2) file (h.start - 1) (omega arith)) ∙ e in
       by_test (ltb 1 h.start)
       (λ t. absurd (true≢false (sym (true_and _ _ t (eq-eqb _ _ f)) ∙ u)))
       (λ t. omega (arith, ltb-false 1 h.start t))

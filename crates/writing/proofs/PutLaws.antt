@@ -10,7 +10,7 @@ use mathlib.Core.Bool.{true}
 use Rattle.spec.specs.Set.{rising}
 use Rattle.spec.specs.Layout.{size, Block, blocks, sparse_data, dense_data, data_of, all_data, entry_bytes, entry_of, all_entries}
 use Rattle.spec.specs.Reading.{part, size_of_data}
-use Rattle.spec.proofs.Bytes.{length_bytes, part_all, get_d_part}
+use Rattle.spec.proofs.Bytes.{length_bytes, part_all, get_or_part}
 use Rattle.spec.proofs.Rising.{rising_facts, rising_length}
 use Rattle.spec.proofs.Content.{length_data, data_sparse, data_dense}
 use Rattle.spec.proofs.Accepted.{length_entry}
@@ -114,7 +114,7 @@ module _ {out₀ rows out : List ℕ} {at to a b i : ℕ} (p : Putting out₀ ro
       let k = more_blocks in
       let l : length out' ≡ length out = ap length s ∙ simp length-sets in
       let gs = blocks (drop e rows) in
-      let first : get_or (part i e rows) 0 0 ≡ get_or rows i 0 = get_d_part i e rows 0 (omega (arith, r.some)) ∙ rw (add-zero i) in
+      let first : get_or (part i e rows) 0 0 ≡ get_or rows i 0 = get_or_part i e rows 0 (omega (arith, r.some)) ∙ rw (add-zero i) in
       let s' : out' ≡ stored_one of_run out a b = s ∙ ap (λ v. stored_one (record { number = v / size; places = places (part i e rows) }) out a b) first in
       record {
         within = r.within;
