@@ -24,7 +24,7 @@ AGAIN = {
     "entry-bytes": "entry_to_bytes",
     "entry-count": "entry_count_back",
     "entryOk": "is_entry",
-    "getD-part": "get_or_part",
+    "get_d_part": "get_or_part",
     "mini-bytes": "mini_to_bytes",
     "word-from": "word_from_place",
 }
@@ -75,7 +75,7 @@ def declared(top):
             for n in m[2].split():
                 if n in ("record", "data") or not SMALL.fullmatch(n):
                     continue
-                if snake(n) != n:
+                if snake(n) != n or n in AGAIN:
                     (fields if m[1] else names).add(n)
     return names, fields
 
