@@ -19,11 +19,6 @@ use Rattle.directory.specs.Parts.{Climbs, Bracket}
 
 -- ---- halving
 
--- a half, or nothing, is no more than a half
-pub times_bit : (n m : ℕ) (b : Bool) → m ≡ bit b → n * m ≤ n
-times_bit n m true e = rw e (omega arith)
-times_bit n m false e = rw e (omega arith)
-
 -- the rank is in one of `left` blocks from `base` on, if it is in one of n
 pub record Halving (directory : List ℕ) (n k base left : ℕ) : Type 0 where
   pub some : 1 ≤ left

@@ -36,6 +36,9 @@ module _ {file : List ℕ} {count : ℕ} {good : Bool} {stop here at left : ℕ}
     unfolding data_sizes
     checking_inside = omega (arith, walk_some c.ends x h e)
 
+    pub checking_within : stop ≤ length file → here + n ≤ length file
+    checking_within l = omega (arith, checking_inside)
+
     module _ (ok : Bool) (end : ℕ) (r : end ≡ rows_at count x.number) (k : ok ≡ is_content x.rows end (part here (here + n) file)) where
       first : is_content x.rows (rows_at count x.number) (part here (here + size_of_data x.rows) file) ≡ ok
       first = sym (rw (r, q) at k)

@@ -20,6 +20,7 @@ use Rattle.spec.proofs.Bytes.{length_part}
 use Rattle.spec.proofs.Verdict.{head_in, unended_5, padded_5, rows_1, overlap_6, entries_6, length_7, content_8, passed_holds}
 use Rattle.judging.specs.Phases.{judged, head_says, head_of, row_sum, totals_from, totals}
 use Rattle.judging.specs.declared.head.Head.TheVariants.{Is, Refused}
+use Rattle.judging.specs.declared.entries.Totals.{Totals}
 use Rattle.judging.specs.declared.entries.Totals.TheVariants.{Sums, Wrong}
 use Rattle.judging.proofs.HeadLaws.{head_within}
 use Rattle.judging.proofs.ContentLaws.{contents_many}
@@ -114,6 +115,18 @@ module _ {file : List ℕ} {h : R.Head} {n : ℕ} (f : Fitting file h n) where
 pub record Summed (file : List ℕ) (h : R.Head) (n rows bytes : ℕ) : Type 0 where
   pub fitting : Fitting file h n
   pub sums : Sums rows bytes ≡ totals h.count (entries_at n (length file - 2 - 4 * n) file)
+
+-- what the row count and the number of entries, as they were read, say of the file
+module _ (file : List ℕ) {count start n : ℕ} (e : head_of file ≡ Is count start) (q : n ≡ number_in (part (length file - 2) (length file - 2 + 2) file)) where
+  pub counted : n ≡ entry_count file
+  counted = entry_count_back file n (omega (arith, (headed file count start e).upto)) q
+
+  pub fitting : start + 4 * n + 2 ≤ length file → Fitting file (record { count = count; start = start }) n
+  fitting l = record { head = headed file count start e; many = counted; room = l }
+
+  pub summed : {rows bytes : ℕ} {t : Totals} → start + 4 * n + 2 ≤ length file → t ≡ Sums rows bytes → t ≡ totals count (entries_at n (length file - 2 - 4 * n) file)
+      → Summed file (record { count = count; start = start }) n rows bytes
+  summed l is t = record { fitting = fitting l; sums = sym is ∙ t }
 
 module _ {file : List ℕ} {h : R.Head} {n rows bytes : ℕ} (s : Summed file h n rows bytes) where
   right : (entries_ok h.count 0 (entries_of file) ≡ true) × (rows ≡ row_sum (entries_of file)) × (bytes ≡ data_sizes (entries_of file))

@@ -19,7 +19,7 @@ use Rattle.spec.proofs.Accepted.{entry_for, length_written, length_all_data}
 use Rattle.spec.proofs.Written.{Was-written, was_written}
 use Rattle.spec.proofs.Cut.{places_of}
 use Rattle.spec.proofs.Splits.{moved, rank_split, contains_split, lookup_split, select_split, next_split, rows_before_next, bytes_before_next, bytes_before_le, block_data, places_rise}
-use Rattle.spec.proofs.Questions.{rank_le, next_select, or_else}
+use Rattle.spec.proofs.Questions.{rank_le, lookup_found, next_select, or_else}
 use Rattle.words.specs.declared.Place.{Place}
 use Rattle.words.specs.declared.Place.TheVariants as PlaceIs
 use Rattle.words.specs.Part.{Holds, Of, placed}
@@ -176,3 +176,12 @@ module _ (file : List ℕ) (rec : Record) (y : AreBytes file) (a : Accepted file
       let x = exists file rec y a in
       let o = x.2 in
       omega (arith, is x.0 x.1 o, rank_le d (rows_of x.1), rising_length 0 rec.row_count (rows_of x.1) (rise o), count_small o)
+
+  -- what a block says of a row's rank, and of a row that is found, fits behind the rows before the block
+  module _ (s : Spot) (d : ℕ) (e : s ≡ spot_from (d / size) 0 rec.data_start (entries_of file)) where
+    pub rank_small : (n : ℕ) → Of (part s.from s.to file) (λ ps. n ≡ rank (d % size) ps) → s.rows + n < 2 ^ 32
+    rank_small n g = rank_fits (s.rows + n) d (λ h gs o. rank_is o s d e n g)
+
+    pub lookup_small : (r : Place) → Of (part s.from s.to file) (λ ps. placed r ≡ lookup (d % size) ps) → (n : ℕ) → r ≡ PlaceIs.At n → s.rows + n < 2 ^ 32
+    lookup_small r g n q =
+        rank_fits (s.rows + n) d (λ h gs o. (lookup_found d _ _ (sym (lookup_is o s d e (placed r) g) ∙ ap (λ p. moved s.rows (placed p)) q)).1)

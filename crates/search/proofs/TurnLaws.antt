@@ -18,11 +18,6 @@ use Rattle.search.proofs.SearchLaws.{near_all, near_from, near_to, finds, finds_
 
 -- ---- halves
 
--- a number, or 0
-pub times_bit : (n m : ℕ) (b : Bool) → m ≡ bit b → n * m ≤ n
-times_bit n m true e = rw e (omega arith)
-times_bit n m false e = rw e (omega arith)
-
 -- the target is or would go among the many places from base on
 pub record Halving (bs : List ℕ) (t base many : ℕ) : Type 0 where
   pub some : 1 ≤ many

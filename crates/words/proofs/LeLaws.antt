@@ -27,6 +27,10 @@ read_turn s i w k n p l b e =
 pub part_lt : (v w a b : ℕ) (s : List ℕ) → AreBytes s → a + w ≡ b → b ≤ length s → w ≤ v → number_in (part a b s) < 256 ^ v
 part_lt v w a b s y e h l = lt_of_lt_of_le (part_number_lt w a b s y e h) (pow-le-pow_right (omega arith) l)
 
+-- what is read before the lowest byte leaves room for it
+pub read_small : (s : List ℕ) (i w k n : ℕ) → AreBytes s → 0 < k → k ≤ w → w ≤ 8 → i + w ≤ length s → n ≡ number_in (part (i + k) (i + w) s) → n < 256 ^ 7
+read_small s i w k n y some h few l e = rw e (part_lt 7 (w - k) (i + k) (i + w) s y (omega arith) l (omega arith))
+
 -- of the writes that are left, which together make e, the first is made
 pub write_turn : (d e : List ℕ) (i w k n : ℕ) → k < w → sets d (i + k) (bytes_of (w - k) n) ≡ e
     → sets (set d (i + k) (n % 256)) (i + (k + 1)) (bytes_of (w - (k + 1)) (n / 256)) ≡ e

@@ -5,3 +5,5 @@ pub mod StoreLaws
 pub mod FillLaws
 pub mod RowLaws
 pub mod FrontLaws
+pub mod TestLaws
+pub mod FlagLaws

@@ -10,31 +10,15 @@ pub returns-then-broken : goal.returns-then-broken
 returns-then-broken c = asked_broken _ _ _ _ _ _ _ _ (sym c.broken.ensures ∙ c.if-broken.true) refl
 
 pub returns-then-record-row : goal.returns-then-record-row
-returns-then-record-row c =
-    let sound : broken c.args.bytes.now c.args.directory.now c.args.«record» ≡ false = sym c.broken.ensures ∙ c.if-broken.false in
-    let bytes : AreBytes c.args.bytes.now = λ i. (c.type_inv.bytes i).fits in
-    contains_out _ _ _ bytes sound _ c.if-record-row.true
+returns-then-record-row c = contains_out _ _ _ (λ i. (c.type_inv.bytes i).fits) (sym c.broken.ensures ∙ c.if-broken.false) _ c.if-record-row.true
 
 pub part-part-requires : goal.part-part-requires
-part-part-requires c =
-    let sound : broken c.args.bytes.now c.args.directory.now c.args.«record» ≡ false = sym c.broken.ensures ∙ c.if-broken.false in
-    let bytes : AreBytes c.args.bytes.now = λ i. (c.type_inv.bytes i).fits in
-    words_there _ _ _ bytes sound _ c.if-record-row.false
+part-part-requires c = words_there _ _ _ (λ i. (c.type_inv.bytes i).fits) (sym c.broken.ensures ∙ c.if-broken.false) _ c.if-record-row.false
 
 pub returns-then-contains : goal.returns-then-contains
 returns-then-contains c =
-    let sound : broken c.args.bytes.now c.args.directory.now c.args.«record» ≡ false = sym c.broken.ensures ∙ c.if-broken.false in
-    let bytes : AreBytes c.args.bytes.now = λ i. (c.type_inv.bytes i).fits in
-    rw c.if-contains.true at (contains_in _ _ _ bytes sound _ c.if-record-row.false _ c.part-part.ensures _ c.contains.ensures)
+    rw c.if-contains.true at (contains_in _ _ _ (λ i. (c.type_inv.bytes i).fits) (sym c.broken.ensures ∙ c.if-broken.false) _ c.if-record-row.false _ c.part-part.ensures _ c.contains.ensures)
 
 pub returns : goal.returns
 returns c =
-    let sound : broken c.args.bytes.now c.args.directory.now c.args.«record» ≡ false = sym c.broken.ensures ∙ c.if-broken.false in
-    let bytes : AreBytes c.args.bytes.now = λ i. (c.type_inv.bytes i).fits in
-    rw c.if-contains.false at (contains_in _ _ _ bytes sound _ c.if-record-row.false _ c.part-part.ensures _ c.contains.ensures)
-
-pub broken-requires : goal.broken-requires
-broken-requires c = search rules
-
-pub contains-requires : goal.contains-requires
-contains-requires c = search rules
+    rw c.if-contains.false at (contains_in _ _ _ (λ i. (c.type_inv.bytes i).fits) (sym c.broken.ensures ∙ c.if-broken.false) _ c.if-record-row.false _ c.part-part.ensures _ c.contains.ensures)

@@ -10,42 +10,21 @@ pub returns-then-broken : goal.returns-then-broken
 returns-then-broken c = asked_broken _ _ _ _ _ _ _ _ (sym c.broken.ensures ∙ c.if-broken.true) refl
 
 pub returns-then-record-row : goal.returns-then-record-row
-returns-then-record-row c =
-    let sound : broken c.args.bytes.now c.args.directory.now c.args.«record» ≡ false = sym c.broken.ensures ∙ c.if-broken.false in
-    let bytes : AreBytes c.args.bytes.now = λ i. (c.type_inv.bytes i).fits in
-    lookup_out _ _ _ bytes sound _ c.if-record-row.true
+returns-then-record-row c = lookup_out _ _ _ (λ i. (c.type_inv.bytes i).fits) (sym c.broken.ensures ∙ c.if-broken.false) _ c.if-record-row.true
 
 pub part-part-requires : goal.part-part-requires
-part-part-requires c =
-    let sound : broken c.args.bytes.now c.args.directory.now c.args.«record» ≡ false = sym c.broken.ensures ∙ c.if-broken.false in
-    let bytes : AreBytes c.args.bytes.now = λ i. (c.type_inv.bytes i).fits in
-    words_there _ _ _ bytes sound _ c.if-record-row.false
+part-part-requires c = words_there _ _ _ (λ i. (c.type_inv.bytes i).fits) (sym c.broken.ensures ∙ c.if-broken.false) _ c.if-record-row.false
 
 -- the block's word is there, since a later one is
 pub bounds-directory-block : goal.bounds-directory-block
 bounds-directory-block c =
-    let sound : broken c.args.bytes.now c.args.directory.now c.args.«record» ≡ false = sym c.broken.ensures ∙ c.if-broken.false in
-    let bytes : AreBytes c.args.bytes.now = λ i. (c.type_inv.bytes i).fits in
-    omega (arith, words_there _ _ _ bytes sound _ c.if-record-row.false)
+    omega (arith, words_there _ _ _ (λ i. (c.type_inv.bytes i).fits) (sym c.broken.ensures ∙ c.if-broken.false) _ c.if-record-row.false)
 
 pub returns-in-At : goal.returns-in-At
 returns-in-At c =
-    let sound : broken c.args.bytes.now c.args.directory.now c.args.«record» ≡ false = sym c.broken.ensures ∙ c.if-broken.false in
-    let bytes : AreBytes c.args.bytes.now = λ i. (c.type_inv.bytes i).fits in
     rw c.wrapping_add_u32.ensures.value
-    (lookup_at _ _ _ bytes sound _ c.if-record-row.false _ c.part-part.ensures _ _ c.in-At.is c.lookup.ensures)
+    (lookup_at _ _ _ (λ i. (c.type_inv.bytes i).fits) (sym c.broken.ensures ∙ c.if-broken.false) _ c.if-record-row.false _ c.part-part.ensures _ _ c.in-At.is c.lookup.ensures)
 
 pub returns-in-Nothing : goal.returns-in-Nothing
 returns-in-Nothing c =
-    let sound : broken c.args.bytes.now c.args.directory.now c.args.«record» ≡ false = sym c.broken.ensures ∙ c.if-broken.false in
-    let bytes : AreBytes c.args.bytes.now = λ i. (c.type_inv.bytes i).fits in
-    lookup_nothing _ _ _ bytes sound _ c.if-record-row.false _ c.part-part.ensures _ c.in-Nothing.is c.lookup.ensures
-
-pub broken-requires : goal.broken-requires
-broken-requires c = search rules
-
-pub lookup-requires : goal.lookup-requires
-lookup-requires c = search rules
-
-pub wrapping_add_u32-requires : goal.wrapping_add_u32-requires
-wrapping_add_u32-requires c = search rules
+    lookup_nothing _ _ _ (λ i. (c.type_inv.bytes i).fits) (sym c.broken.ensures ∙ c.if-broken.false) _ c.if-record-row.false _ c.part-part.ensures _ c.in-Nothing.is c.lookup.ensures

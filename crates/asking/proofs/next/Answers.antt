@@ -10,16 +10,10 @@ pub returns-then-broken : goal.returns-then-broken
 returns-then-broken c = asked_broken _ _ _ _ _ _ _ _ (sym c.broken.ensures ∙ c.if-broken.true) refl
 
 pub returns-then-record-row : goal.returns-then-record-row
-returns-then-record-row c =
-    let sound : broken c.args.bytes.now c.args.directory.now c.args.«record» ≡ false = sym c.broken.ensures ∙ c.if-broken.false in
-    let bytes : AreBytes c.args.bytes.now = λ i. (c.type_inv.bytes i).fits in
-    next_out _ _ _ bytes sound _ c.if-record-row.true
+returns-then-record-row c = next_out _ _ _ (λ i. (c.type_inv.bytes i).fits) (sym c.broken.ensures ∙ c.if-broken.false) _ c.if-record-row.true
 
 pub part-part-requires : goal.part-part-requires
-part-part-requires c =
-    let sound : broken c.args.bytes.now c.args.directory.now c.args.«record» ≡ false = sym c.broken.ensures ∙ c.if-broken.false in
-    let bytes : AreBytes c.args.bytes.now = λ i. (c.type_inv.bytes i).fits in
-    words_there _ _ _ bytes sound _ c.if-record-row.false
+part-part-requires c = words_there _ _ _ (λ i. (c.type_inv.bytes i).fits) (sym c.broken.ensures ∙ c.if-broken.false) _ c.if-record-row.false
 
 -- a place is below 65,536
 pub overflow_add-result : goal.overflow_add-result
@@ -29,36 +23,20 @@ overflow_add-result c =
 
 pub bounds-directory-block : goal.bounds-directory-block
 bounds-directory-block c =
-    let sound : broken c.args.bytes.now c.args.directory.now c.args.«record» ≡ false = sym c.broken.ensures ∙ c.if-broken.false in
-    let bytes : AreBytes c.args.bytes.now = λ i. (c.type_inv.bytes i).fits in
-    omega (arith, words_there _ _ _ bytes sound _ c.if-record-row.false)
+    omega (arith, words_there _ _ _ (λ i. (c.type_inv.bytes i).fits) (sym c.broken.ensures ∙ c.if-broken.false) _ c.if-record-row.false)
 
 pub returns-then-record-end : goal.returns-then-record-end
 returns-then-record-end c =
-    let sound : broken c.args.bytes.now c.args.directory.now c.args.«record» ≡ false = sym c.broken.ensures ∙ c.if-broken.false in
-    let bytes : AreBytes c.args.bytes.now = λ i. (c.type_inv.bytes i).fits in
-    next_none _ _ _ bytes sound _ c.if-record-row.false _ c.part-part.ensures _ c.in-Nothing.is c.next.ensures.exact c.if-record-end.true
+    next_none _ _ _ (λ i. (c.type_inv.bytes i).fits) (sym c.broken.ensures ∙ c.if-broken.false) _ c.if-record-row.false _ c.part-part.ensures _ c.in-Nothing.is c.next.ensures.exact c.if-record-end.true
 
 pub member-requires : goal.member-requires
-member-requires c =
-    let sound : broken c.args.bytes.now c.args.directory.now c.args.«record» ≡ false = sym c.broken.ensures ∙ c.if-broken.false in
-    record { unbroken = sound; rank_below = c.if-record-end.false }
+member-requires c = record { unbroken = sym c.broken.ensures ∙ c.if-broken.false; rank_below = c.if-record-end.false }
 
 pub returns-in-At : goal.returns-in-At
 returns-in-At c =
-    let sound : broken c.args.bytes.now c.args.directory.now c.args.«record» ≡ false = sym c.broken.ensures ∙ c.if-broken.false in
-    let bytes : AreBytes c.args.bytes.now = λ i. (c.type_inv.bytes i).fits in
-    next_at _ _ _ bytes sound _ c.if-record-row.false _ c.part-part.ensures _ _ c.in-At.is c.next.ensures.exact
+    next_at _ _ _ (λ i. (c.type_inv.bytes i).fits) (sym c.broken.ensures ∙ c.if-broken.false) _ c.if-record-row.false _ c.part-part.ensures _ _ c.in-At.is c.next.ensures.exact
 
 pub returns-else-record-end : goal.returns-else-record-end
 returns-else-record-end c =
-    let sound : broken c.args.bytes.now c.args.directory.now c.args.«record» ≡ false = sym c.broken.ensures ∙ c.if-broken.false in
-    let bytes : AreBytes c.args.bytes.now = λ i. (c.type_inv.bytes i).fits in
-    next_later _ _ _ bytes sound _ c.if-record-row.false _ c.part-part.ensures _ c.in-Nothing.is c.next.ensures.exact c.if-record-end.false _
+    next_later _ _ _ (λ i. (c.type_inv.bytes i).fits) (sym c.broken.ensures ∙ c.if-broken.false) _ c.if-record-row.false _ c.part-part.ensures _ c.in-Nothing.is c.next.ensures.exact c.if-record-end.false _
     c.member.ensures
-
-pub broken-requires : goal.broken-requires
-broken-requires c = search rules
-
-pub next-requires : goal.next-requires
-next-requires c = search rules

@@ -10,35 +10,16 @@ pub returns-then-broken : goal.returns-then-broken
 returns-then-broken c = asked_broken _ _ _ _ _ _ _ _ (sym c.broken.ensures ∙ c.if-broken.true) refl
 
 pub returns-then-record-row : goal.returns-then-record-row
-returns-then-record-row c =
-    let sound : broken c.args.bytes.now c.args.directory.now c.args.«record» ≡ false = sym c.broken.ensures ∙ c.if-broken.false in
-    let bytes : AreBytes c.args.bytes.now = λ i. (c.type_inv.bytes i).fits in
-    rank_out _ _ _ bytes sound _ c.if-record-row.true
+returns-then-record-row c = rank_out _ _ _ (λ i. (c.type_inv.bytes i).fits) (sym c.broken.ensures ∙ c.if-broken.false) _ c.if-record-row.true
 
 pub part-part-requires : goal.part-part-requires
-part-part-requires c =
-    let sound : broken c.args.bytes.now c.args.directory.now c.args.«record» ≡ false = sym c.broken.ensures ∙ c.if-broken.false in
-    let bytes : AreBytes c.args.bytes.now = λ i. (c.type_inv.bytes i).fits in
-    words_there _ _ _ bytes sound _ c.if-record-row.false
+part-part-requires c = words_there _ _ _ (λ i. (c.type_inv.bytes i).fits) (sym c.broken.ensures ∙ c.if-broken.false) _ c.if-record-row.false
 
 -- the block's word is there, since a later one is
 pub bounds-directory-block : goal.bounds-directory-block
 bounds-directory-block c =
-    let sound : broken c.args.bytes.now c.args.directory.now c.args.«record» ≡ false = sym c.broken.ensures ∙ c.if-broken.false in
-    let bytes : AreBytes c.args.bytes.now = λ i. (c.type_inv.bytes i).fits in
-    omega (arith, words_there _ _ _ bytes sound _ c.if-record-row.false)
+    omega (arith, words_there _ _ _ (λ i. (c.type_inv.bytes i).fits) (sym c.broken.ensures ∙ c.if-broken.false) _ c.if-record-row.false)
 
 pub returns : goal.returns
 returns c =
-    let sound : broken c.args.bytes.now c.args.directory.now c.args.«record» ≡ false = sym c.broken.ensures ∙ c.if-broken.false in
-    let bytes : AreBytes c.args.bytes.now = λ i. (c.type_inv.bytes i).fits in
-    rw c.wrapping_add_u32.ensures.value (rank_in _ _ _ bytes sound _ c.if-record-row.false _ c.part-part.ensures _ c.rank-below.ensures)
-
-pub broken-requires : goal.broken-requires
-broken-requires c = search rules
-
-pub rank-below-requires : goal.rank-below-requires
-rank-below-requires c = search rules
-
-pub wrapping_add_u32-requires : goal.wrapping_add_u32-requires
-wrapping_add_u32-requires c = search rules
+    rw c.wrapping_add_u32.ensures.value (rank_in _ _ _ (λ i. (c.type_inv.bytes i).fits) (sym c.broken.ensures ∙ c.if-broken.false) _ c.if-record-row.false _ c.part-part.ensures _ c.rank-below.ensures)

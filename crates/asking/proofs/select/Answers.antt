@@ -10,21 +10,10 @@ pub returns-then-broken : goal.returns-then-broken
 returns-then-broken c = asked_broken _ _ _ _ _ _ _ _ (sym c.broken.ensures ∙ c.if-broken.true) refl
 
 pub returns-then-record-rank : goal.returns-then-record-rank
-returns-then-record-rank c =
-    let sound : broken c.args.bytes.now c.args.directory.now c.args.«record» ≡ false = sym c.broken.ensures ∙ c.if-broken.false in
-    let bytes : AreBytes c.args.bytes.now = λ i. (c.type_inv.bytes i).fits in
-    select_out _ _ _ bytes sound _ c.if-record-rank.true
+returns-then-record-rank c = select_out _ _ _ (λ i. (c.type_inv.bytes i).fits) (sym c.broken.ensures ∙ c.if-broken.false) _ c.if-record-rank.true
 
 pub member-requires : goal.member-requires
-member-requires c =
-    let sound : broken c.args.bytes.now c.args.directory.now c.args.«record» ≡ false = sym c.broken.ensures ∙ c.if-broken.false in
-    record { unbroken = sound; rank_below = c.if-record-rank.false }
+member-requires c = record { unbroken = sym c.broken.ensures ∙ c.if-broken.false; rank_below = c.if-record-rank.false }
 
 pub returns : goal.returns
-returns c =
-    let sound : broken c.args.bytes.now c.args.directory.now c.args.«record» ≡ false = sym c.broken.ensures ∙ c.if-broken.false in
-    let bytes : AreBytes c.args.bytes.now = λ i. (c.type_inv.bytes i).fits in
-    select_in _ _ _ bytes sound _ c.if-record-rank.false _ c.member.ensures
-
-pub broken-requires : goal.broken-requires
-broken-requires c = search rules
+returns c = select_in _ _ _ (λ i. (c.type_inv.bytes i).fits) (sym c.broken.ensures ∙ c.if-broken.false) _ c.if-record-rank.false _ c.member.ensures

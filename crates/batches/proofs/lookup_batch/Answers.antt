@@ -11,37 +11,23 @@ returns-then-broken c = asked_broken _ _ _ _ _ _ _ _ (sym c.broken.ensures ∙ c
 
 pub returns-then-rows-questions : goal.returns-then-rows-questions
 returns-then-rows-questions c =
-    let sound : broken c.args.bytes.now c.args.directory.now c.args.«record» ≡ false = sym c.broken.ensures ∙ c.if-broken.false in
-    let a = c.args in rows_short _ _ _ sound a.questions.now a.rows.now a.ranks.now c.if-rows-questions.true
+    let a = c.args in rows_short _ _ _ (sym c.broken.ensures ∙ c.if-broken.false) a.questions.now a.rows.now a.ranks.now c.if-rows-questions.true
 
 pub returns-then-ranks-questions : goal.returns-then-ranks-questions
 returns-then-ranks-questions c =
-    let sound : broken c.args.bytes.now c.args.directory.now c.args.«record» ≡ false = sym c.broken.ensures ∙ c.if-broken.false in
     let a = c.args in
-    ranks_short _ _ _ sound a.questions.now a.rows.now a.ranks.now c.if-rows-questions.false c.if-ranks-questions.true
+    ranks_short _ _ _ (sym c.broken.ensures ∙ c.if-broken.false) a.questions.now a.rows.now a.ranks.now c.if-rows-questions.false c.if-ranks-questions.true
 
 pub sorted-requires : goal.sorted-requires
 sorted-requires c =
-    let sound : broken c.args.bytes.now c.args.directory.now c.args.«record» ≡ false = sym c.broken.ensures ∙ c.if-broken.false in
-    record { unbroken = sound; never_falls = never_falls 0 _ (sym c.never_fall.ensures ∙ c.if-never_fall.true); room = (c.if-rows-questions.false, c.if-ranks-questions.false) }
+    record { unbroken = sym c.broken.ensures ∙ c.if-broken.false; never_falls = never_falls 0 _ (sym c.never_fall.ensures ∙ c.if-never_fall.true); room = (c.if-rows-questions.false, c.if-ranks-questions.false) }
 
 pub returns-then-never_fall : goal.returns-then-never_fall
 returns-then-never_fall c =
-    let sound : broken c.args.bytes.now c.args.directory.now c.args.«record» ≡ false = sym c.broken.ensures ∙ c.if-broken.false in
-    looked_up _ _ _ sound _ _ _ c.if-rows-questions.false c.if-ranks-questions.false c.sorted.ensures
+    looked_up _ _ _ (sym c.broken.ensures ∙ c.if-broken.false) _ _ _ c.if-rows-questions.false c.if-ranks-questions.false c.sorted.ensures
 
 pub in_order-requires : goal.in_order-requires
-in_order-requires c =
-    let sound : broken c.args.bytes.now c.args.directory.now c.args.«record» ≡ false = sym c.broken.ensures ∙ c.if-broken.false in
-    record { unbroken = sound; room = (c.if-rows-questions.false, c.if-ranks-questions.false) }
+in_order-requires c = record { unbroken = sym c.broken.ensures ∙ c.if-broken.false; room = (c.if-rows-questions.false, c.if-ranks-questions.false) }
 
 pub returns : goal.returns
-returns c =
-    let sound : broken c.args.bytes.now c.args.directory.now c.args.«record» ≡ false = sym c.broken.ensures ∙ c.if-broken.false in
-    looked_up _ _ _ sound _ _ _ c.if-rows-questions.false c.if-ranks-questions.false c.in_order.ensures
-
-pub broken-requires : goal.broken-requires
-broken-requires c = search rules
-
-pub never_fall-requires : goal.never_fall-requires
-never_fall-requires c = search rules
+returns c = looked_up _ _ _ (sym c.broken.ensures ∙ c.if-broken.false) _ _ _ c.if-rows-questions.false c.if-ranks-questions.false c.in_order.ensures

@@ -9,32 +9,19 @@ pub returns-then-broken : goal.returns-then-broken
 returns-then-broken c = asked_broken _ _ _ _ _ _ _ _ (sym c.broken.ensures ∙ c.if-broken.true) refl
 
 pub returns-then-record-from : goal.returns-then-record-from
-returns-then-record-from c =
-    let sound : broken c.args.bytes.now c.args.directory.now c.args.«record» ≡ false = sym c.broken.ensures ∙ c.if-broken.false in
-    rank_above _ _ _ sound _ _ c.if-record-from.true
+returns-then-record-from c = rank_above _ _ _ (sym c.broken.ensures ∙ c.if-broken.false) _ _ c.if-record-from.true
 
 pub returns-then-n-eq0 : goal.returns-then-n-eq0
-returns-then-n-eq0 c =
-    let sound : broken c.args.bytes.now c.args.directory.now c.args.«record» ≡ false = sym c.broken.ensures ∙ c.if-broken.false in
-    no_page _ _ _ sound _ _ c.if-record-from.false (omega (arith, c.room-n.ensures))
+returns-then-n-eq0 c = no_page _ _ _ (sym c.broken.ensures ∙ c.if-broken.false) _ _ c.if-record-from.false (omega (arith, c.room-n.ensures))
 
 pub slice_bounds-fill-end-2 : goal.slice_bounds-fill-end-2
 slice_bounds-fill-end-2 c = omega (arith, length-take c.room-n.result c.args.rows.now, c.room-n.ensures)
 
 pub fill-requires : goal.fill-requires
 fill-requires c =
-    let sound : broken c.args.bytes.now c.args.directory.now c.args.«record» ≡ false = sym c.broken.ensures ∙ c.if-broken.false in
     let n = length-take c.room-n.result c.args.rows.now in
     let m = c.room-n.ensures in
-    record { unbroken = sound; rows_there = (omega arith, omega (arith, c.if-record-from.false)) }
+    record { unbroken = sym c.broken.ensures ∙ c.if-broken.false; rows_there = (omega arith, omega (arith, c.if-record-from.false)) }
 
 pub returns : goal.returns
-returns c =
-    let sound : broken c.args.bytes.now c.args.directory.now c.args.«record» ≡ false = sym c.broken.ensures ∙ c.if-broken.false in
-    paged _ _ _ sound _ _ c.if-record-from.false c.room-n.ensures c.fill.ensures
-
-pub broken-requires : goal.broken-requires
-broken-requires c = search rules
-
-pub room-n-requires : goal.room-n-requires
-room-n-requires c = search rules
+returns c = paged _ _ _ (sym c.broken.ensures ∙ c.if-broken.false) _ _ c.if-record-from.false c.room-n.ensures c.fill.ensures

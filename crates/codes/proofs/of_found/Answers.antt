@@ -4,6 +4,3 @@ use Rattle.codes.proofs.of_found.Goals as goal
 
 pub returns-in-Refused : goal.returns-in-Refused
 returns-in-Refused c = cc
-
-pub refused-requires : goal.refused-requires
-refused-requires c = search rules

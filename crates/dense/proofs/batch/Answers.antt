@@ -34,8 +34,7 @@ loop-i-preserved-in-At c =
     c.in-At.is c.wrapping_add_u32.ensures.value
 
 pub loop-i-preserved : goal.loop-i-preserved
-loop-i-preserved c =
-    asking_miss c.loop-i.invariant c.requires.never_falls.1 (omega arith) c.lookup.ensures c.in-Nothing.is
+loop-i-preserved c = asking_miss c.loop-i.invariant c.requires.never_falls.1 (omega arith) c.lookup.ensures c.in-Nothing.is
 
 pub shape_of-rows : goal.shape_of-rows
 shape_of-rows c = (c.loop-i.invariant.filled []).rows_long
@@ -45,9 +44,3 @@ shape_of-ranks c = (c.loop-i.invariant.filled []).ranks_long
 
 pub returns : goal.returns
 returns c = asking_all c.loop-i.invariant (omega arith) c.requires.room.0 c.requires.room.1
-
-pub lookup-requires : goal.lookup-requires
-lookup-requires c = search rules
-
-pub wrapping_add_u32-requires : goal.wrapping_add_u32-requires
-wrapping_add_u32-requires c = search rules

@@ -36,18 +36,3 @@ pub returns : goal.returns
 returns c =
     let l = c.loop-j.invariant in
     list_end c.requires.is_dense l (omega (arith, l.long))
-
-pub find_mini-m-requires : goal.find_mini-m-requires
-find_mini-m-requires c = search rules
-
-pub mini_block-x-requires : goal.mini_block-x-requires
-mini_block-x-requires c = search rules
-
-pub wrapping_sub_u32-requires : goal.wrapping_sub_u32-requires
-wrapping_sub_u32-requires c = search rules
-
-pub clear_lowest-word-requires : goal.clear_lowest-word-requires
-clear_lowest-word-requires c = search rules
-
-pub read-word-requires : goal.read-word-requires
-read-word-requires c = omega arith

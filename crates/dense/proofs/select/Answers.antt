@@ -29,6 +29,3 @@ returns c =
     let w = x.result.bitvec in
     let few = c.if-m-left.false in
     let small = rising_between n.result 0 64 (bits 64 0 w) (omega (arith, few, length_bits 64 0 w (omega arith))) (bits_rising 64 0 w) in record { inside = omega (arith, c.select_u64.ensures, f.ensures.0); exact = λ ps h. ap (λ p. 64 * f.result + p) c.select_u64.ensures ∙ selected c.requires f.ensures x.ensures n.ensures.value (omega arith) h few }
-
-pub wrapping_sub_u32-left-requires : goal.wrapping_sub_u32-left-requires
-wrapping_sub_u32-left-requires c = search rules

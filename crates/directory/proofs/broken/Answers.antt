@@ -29,17 +29,11 @@ returns c =
     last_test _ _ _ _ c.block_count-closing.ensures
     (omega arith) (omega arith) (omega arith) (omega arith) (omega arith) (omega arith)
 
-pub block_count-closing-requires : goal.block_count-closing-requires
-block_count-closing-requires c = search rules
-
 pub overflow_cast-result-2 : goal.overflow_cast-result-2
-overflow_cast-result-2 c = let fits : get_or c.args.directory.now (2 * c.block_count-closing.result + 1) 0 < 2 ^ 32 = (c.type_inv.directory (2 * c.block_count-closing.result + 1)).fits in
-    omega (arith, fits)
+overflow_cast-result-2 c = omega (arith, (c.type_inv.directory (2 * c.block_count-closing.result + 1)).fits)
 
 pub overflow_add-result-2 : goal.overflow_add-result-2
-overflow_add-result-2 c = let fits : get_or c.args.directory.now (2 * c.block_count-closing.result + 1) 0 < 2 ^ 32 = (c.type_inv.directory (2 * c.block_count-closing.result + 1)).fits in
-    omega (arith, fits)
+overflow_add-result-2 c = omega (arith, (c.type_inv.directory (2 * c.block_count-closing.result + 1)).fits)
 
 pub overflow_add-result-3 : goal.overflow_add-result-3
-overflow_add-result-3 c = let fits : get_or c.args.directory.now (2 * c.block_count-closing.result + 1) 0 < 2 ^ 32 = (c.type_inv.directory (2 * c.block_count-closing.result + 1)).fits in
-    omega (arith, fits)
+overflow_add-result-3 c = omega (arith, (c.type_inv.directory (2 * c.block_count-closing.result + 1)).fits)

@@ -6,9 +6,3 @@ use Rattle.gateway.proofs.optional_index_contains.Goals as goal
 
 pub returns : goal.returns
 returns c = c.of_answer.ensures ∙ ap code c.contains_once.ensures
-
-pub contains_once-requires : goal.contains_once-requires
-contains_once-requires c = search rules
-
-pub of_answer-requires : goal.of_answer-requires
-of_answer-requires c = search rules

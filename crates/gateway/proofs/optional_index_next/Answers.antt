@@ -6,9 +6,3 @@ use Rattle.gateway.proofs.optional_index_next.Goals as goal
 
 pub returns : goal.returns
 returns c = c.of_found.ensures ∙ ap code c.next_once.ensures
-
-pub next_once-requires : goal.next_once-requires
-next_once-requires c = search rules
-
-pub of_found-requires : goal.of_found-requires
-of_found-requires c = search rules

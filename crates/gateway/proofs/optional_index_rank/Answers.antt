@@ -6,9 +6,3 @@ use Rattle.gateway.proofs.optional_index_rank.Goals as goal
 
 pub returns : goal.returns
 returns c = c.of_number.ensures ∙ ap code c.rank_once.ensures
-
-pub rank_once-requires : goal.rank_once-requires
-rank_once-requires c = search rules
-
-pub of_number-requires : goal.of_number-requires
-of_number-requires c = search rules

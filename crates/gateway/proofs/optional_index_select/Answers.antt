@@ -6,9 +6,3 @@ use Rattle.gateway.proofs.optional_index_select.Goals as goal
 
 pub returns : goal.returns
 returns c = c.of_number.ensures ∙ ap code c.select_once.ensures
-
-pub select_once-requires : goal.select_once-requires
-select_once-requires c = search rules
-
-pub of_number-requires : goal.of_number-requires
-of_number-requires c = search rules

@@ -9,6 +9,3 @@ judge_blocks-requires c = sym c.read.ensures ∙ c.in-Is.is
 
 pub returns-in-Refused : goal.returns-in-Refused
 returns-in-Refused c = head_refused _ _ (sym c.read.ensures ∙ c.in-Refused.is)
-
-pub read-requires : goal.read-requires
-read-requires c = search rules

@@ -9,20 +9,14 @@ use Rattle.one_shot.proofs.contains_once.Goals as goal
 
 pub returns-then-contains : goal.returns-then-contains
 returns-then-contains c =
-    let accepted : Accepted c.args.bytes.now c.in-Index.«record» = sym (ap opened c.in-Index.is) ∙ c.judge.ensures in
-    owes_set _ (say_contains c.args.row) _ _ accepted (λ h gs v. ap (λ t. value (bit t)) (sym c.if-contains.true ∙ c.contains.ensures h gs v))
+    owes_set _ (say_contains c.args.row) _ _ (sym (ap opened c.in-Index.is) ∙ c.judge.ensures) (λ h gs v. ap (λ t. value (bit t)) (sym c.if-contains.true ∙ c.contains.ensures h gs v))
 
 pub returns-in-Refused : goal.returns-in-Refused
 returns-in-Refused c = owes_refusal _ _ _ (sym (ap opened c.in-Refused.is) ∙ c.judge.ensures)
 
 pub returns-else-contains : goal.returns-else-contains
 returns-else-contains c =
-    let accepted : Accepted c.args.bytes.now c.in-Index.«record» = sym (ap opened c.in-Index.is) ∙ c.judge.ensures in
-    owes_set _ (say_contains c.args.row) _ _ accepted (λ h gs v. ap (λ t. value (bit t)) (sym c.if-contains.false ∙ c.contains.ensures h gs v))
-
-pub judge-requires : goal.judge-requires
-judge-requires c = search rules
+    owes_set _ (say_contains c.args.row) _ _ (sym (ap opened c.in-Index.is) ∙ c.judge.ensures) (λ h gs v. ap (λ t. value (bit t)) (sym c.if-contains.false ∙ c.contains.ensures h gs v))
 
 pub contains-requires : goal.contains-requires
-contains-requires c = let accepted : Accepted c.args.bytes.now c.in-Index.«record» = sym (ap opened c.in-Index.is) ∙ c.judge.ensures in
-    accepted
+contains-requires c = sym (ap opened c.in-Index.is) ∙ c.judge.ensures

@@ -11,12 +11,7 @@ returns-in-Refused c = owes_refusal _ _ _ (sym (ap opened c.in-Refused.is) ∙ c
 
 pub returns-in-Index : goal.returns-in-Index
 returns-in-Index c =
-    let accepted : Accepted c.args.bytes.now c.in-Index.«record» = sym (ap opened c.in-Index.is) ∙ c.judge.ensures in
-    owes_set _ (say_rank c.args.row) _ _ accepted (λ h gs v. ap value (c.rank.ensures h gs v))
-
-pub judge-requires : goal.judge-requires
-judge-requires c = search rules
+    owes_set _ (say_rank c.args.row) _ _ (sym (ap opened c.in-Index.is) ∙ c.judge.ensures) (λ h gs v. ap value (c.rank.ensures h gs v))
 
 pub rank-requires : goal.rank-requires
-rank-requires c = let accepted : Accepted c.args.bytes.now c.in-Index.«record» = sym (ap opened c.in-Index.is) ∙ c.judge.ensures in
-    accepted
+rank-requires c = sym (ap opened c.in-Index.is) ∙ c.judge.ensures

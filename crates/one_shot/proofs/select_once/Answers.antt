@@ -7,22 +7,15 @@ use Rattle.one_shot.proofs.OnceLaws.{owes_refusal, select_out, select_in}
 use Rattle.one_shot.proofs.select_once.Goals as goal
 
 pub returns-then-record-rank : goal.returns-then-record-rank
-returns-then-record-rank c =
-    let accepted : Accepted c.args.bytes.now c.in-Index.«record» = sym (ap opened c.in-Index.is) ∙ c.judge.ensures in
-    select_out _ _ _ accepted c.if-record-rank.true
+returns-then-record-rank c = select_out _ _ _ (sym (ap opened c.in-Index.is) ∙ c.judge.ensures) c.if-record-rank.true
 
 pub select-requires : goal.select-requires
 select-requires c =
-    let accepted : Accepted c.args.bytes.now c.in-Index.«record» = sym (ap opened c.in-Index.is) ∙ c.judge.ensures in
-    record { accepted = accepted; k_below = c.if-record-rank.false }
+    record { accepted = (sym (ap opened c.in-Index.is) ∙ c.judge.ensures); k_below = c.if-record-rank.false }
 
 pub returns-in-Refused : goal.returns-in-Refused
 returns-in-Refused c = owes_refusal _ _ _ (sym (ap opened c.in-Refused.is) ∙ c.judge.ensures)
 
 pub returns-else-record-rank : goal.returns-else-record-rank
 returns-else-record-rank c =
-    let accepted : Accepted c.args.bytes.now c.in-Index.«record» = sym (ap opened c.in-Index.is) ∙ c.judge.ensures in
-    select_in _ _ _ accepted c.if-record-rank.false _ (λ h gs v. c.select.ensures h gs v)
-
-pub judge-requires : goal.judge-requires
-judge-requires c = search rules
+    select_in _ _ _ (sym (ap opened c.in-Index.is) ∙ c.judge.ensures) c.if-record-rank.false _ (λ h gs v. c.select.ensures h gs v)

@@ -8,38 +8,31 @@ use Rattle.spec.specs.Reading.{entry_count}
 use Rattle.judging.proofs.EntryLaws.{Right}
 use Rattle.judging.proofs.JudgeLaws.{entry_count_back}
 use Rattle.opening.proofs.FillLaws.{fill_end, fill_right, fill_small, fill_more}
-use Rattle.opening.proofs.OpenLaws.{Filled, filled, fill_start}
+use Rattle.opening.proofs.OpenLaws.{filled, counted, fill_start}
 use Rattle.opening.proofs.fill.Goals as goal
 
 pub overflow_sub-end : goal.overflow_sub-end
-overflow_sub-end c =
-    let has : Filled c.args.bytes.now c.args.row_count = filled _ _ (λ i. (c.type_inv.bytes i).fits) c.requires.accepts in
-    omega (arith, has.fits)
+overflow_sub-end c = omega (arith, (filled _ _ (λ i. (c.type_inv.bytes i).fits) c.requires.accepts).fits)
 
 pub u16_at-left-requires : goal.u16_at-left-requires
-u16_at-left-requires c =
-    let has : Filled c.args.bytes.now c.args.row_count = filled _ _ (λ i. (c.type_inv.bytes i).fits) c.requires.accepts in
-    omega (arith, has.fits)
+u16_at-left-requires c = omega (arith, (filled _ _ (λ i. (c.type_inv.bytes i).fits) c.requires.accepts).fits)
 
 pub overflow_sub-at : goal.overflow_sub-at
 overflow_sub-at c =
-    let has : Filled c.args.bytes.now c.args.row_count = filled _ _ (λ i. (c.type_inv.bytes i).fits) c.requires.accepts in
-    let counted : c.u16_at-left.result ≡ entry_count c.args.bytes.now = entry_count_back c.args.bytes.now _ (omega (arith, has.fits)) c.u16_at-left.ensures in
-    omega (arith, counted, has.fits)
+    let f = filled _ _ (λ i. (c.type_inv.bytes i).fits) c.requires.accepts in
+    omega (arith, counted f c.u16_at-left.ensures, f.fits)
 
 pub loop-left-init : goal.loop-left-init
 loop-left-init c =
-    let has : Filled c.args.bytes.now c.args.row_count = filled _ _ (λ i. (c.type_inv.bytes i).fits) c.requires.accepts in
-    let counted : c.u16_at-left.result ≡ entry_count c.args.bytes.now = entry_count_back c.args.bytes.now _ (omega (arith, has.fits)) c.u16_at-left.ensures in
-    fill_start _ _ _ _ has counted
+    let f = filled _ _ (λ i. (c.type_inv.bytes i).fits) c.requires.accepts in
+    fill_start _ _ _ _ f (counted f c.u16_at-left.ensures)
 
 pub entry_at-x-requires : goal.entry_at-x-requires
 entry_at-x-requires c = omega (arith, c.loop-left.invariant.entries.within)
 
 pub put_pairs-requires : goal.put_pairs-requires
 put_pairs-requires c =
-    let next : Right c.args.row_count c.loop-left.block c.entry_at-x.result = fill_right c.loop-left.invariant c.entry_at-x.result (omega arith) c.entry_at-x.ensures in
-    let n = next in
+    let n = fill_right c.loop-left.invariant c.entry_at-x.result (omega arith) c.entry_at-x.ensures in
     (omega (arith, n.from), omega (arith, n.inside, c.loop-left.invariant.long, c.requires.room))
 
 pub overflow_add-rows : goal.overflow_add-rows
@@ -60,22 +53,17 @@ pub shape_of-directory : goal.shape_of-directory
 shape_of-directory c = ap length c.put_pairs-2.ensures ∙ simp length-sets c.loop-left.invariant.long
 
 pub returns : goal.returns
-returns c =
-    c.put_pairs-2.ensures ∙ rw c.block_count-blocks.ensures (fill_end c.loop-left.invariant (omega arith))
-
-pub data_size-requires : goal.data_size-requires
-data_size-requires c = search rules
+returns c = c.put_pairs-2.ensures ∙ rw c.block_count-blocks.ensures (fill_end c.loop-left.invariant (omega arith))
 
 pub overflow_cast-size : goal.overflow_cast-size
-overflow_cast-size c = let few : c.loop-left.size + c.data_size.result ≤ 671088640 = let s = fill_small c.loop-left.invariant c.entry_at-x.result (omega arith) c.entry_at-x.ensures in omega (arith, s.bytes', s.blocks, c.data_size.ensures) in
-    omega (arith, few)
+overflow_cast-size c =
+    let s = fill_small c.loop-left.invariant c.entry_at-x.result (omega arith) c.entry_at-x.ensures in
+    omega (arith, s.bytes', s.blocks, c.data_size.ensures)
 
 pub overflow_add-size : goal.overflow_add-size
-overflow_add-size c = let few : c.loop-left.size + c.data_size.result ≤ 671088640 = let s = fill_small c.loop-left.invariant c.entry_at-x.result (omega arith) c.entry_at-x.ensures in omega (arith, s.bytes', s.blocks, c.data_size.ensures) in
-    omega (arith, few)
-
-pub block_count-blocks-requires : goal.block_count-blocks-requires
-block_count-blocks-requires c = search rules
+overflow_add-size c =
+    let s = fill_small c.loop-left.invariant c.entry_at-x.result (omega arith) c.entry_at-x.ensures in
+    omega (arith, s.bytes', s.blocks, c.data_size.ensures)
 
 pub overflow_add-blocks : goal.overflow_add-blocks
 overflow_add-blocks c = omega (arith, c.block_count-blocks.ensures)

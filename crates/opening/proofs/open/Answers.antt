@@ -13,22 +13,12 @@ returns-in-Refused c = owes_refusal _ _ _ (sym (ap opened c.in-Refused.is) ∙ c
 
 pub returns-then-directory-block_count : goal.returns-then-directory-block_count
 returns-then-directory-block_count c =
-    let judges : value c.in-Index.«record» ≡ judged (verdict c.args.bytes.now) = sym (ap opened c.in-Index.is) ∙ c.judge.ensures in
-    owes_room _ _ _ (accepted _ _ judges).0 (omega (arith, c.block_count.ensures))
+    owes_room _ _ _ (accepted _ _ (sym (ap opened c.in-Index.is) ∙ c.judge.ensures)).0 (omega (arith, c.block_count.ensures))
 
 pub fill-requires : goal.fill-requires
-fill-requires c =
-    let judges : value c.in-Index.«record» ≡ judged (verdict c.args.bytes.now) = sym (ap opened c.in-Index.is) ∙ c.judge.ensures in
-    record { accepts = (accepted _ _ judges).0; room = omega (arith, c.block_count.ensures) }
+fill-requires c = record { accepts = (accepted _ _ (sym (ap opened c.in-Index.is) ∙ c.judge.ensures)).0; room = omega (arith, c.block_count.ensures) }
 
 pub returns-else-directory-block_count : goal.returns-else-directory-block_count
 returns-else-directory-block_count c =
-    let judges : value c.in-Index.«record» ≡ judged (verdict c.args.bytes.now) = sym (ap opened c.in-Index.is) ∙ c.judge.ensures in
-    let a = accepted _ _ judges in
+    let a = accepted _ _ (sym (ap opened c.in-Index.is) ∙ c.judge.ensures) in
     rw c.fill.ensures (owes_index _ _ _ a.0 _ a.1 (omega (arith, c.block_count.ensures)))
-
-pub judge-requires : goal.judge-requires
-judge-requires c = search rules
-
-pub block_count-requires : goal.block_count-requires
-block_count-requires c = search rules

@@ -13,9 +13,3 @@ pub returns-then-rows-n : goal.returns-then-rows-n
 returns-then-rows-n c =
     ap (λ o. unless o (value tt))
     (sym (last_below _ _ (sym c.rise.ensures ∙ c.if-rise.true) (omega arith) c.if-rows-n.true))
-
-pub rise-requires : goal.rise-requires
-rise-requires c = search rules
-
-pub first_fault-requires : goal.first_fault-requires
-first_fault-requires c = search rules

@@ -8,8 +8,7 @@ pub loop-i-init : goal.loop-i-init
 loop-i-init c = left_none _ _
 
 pub returns-then-row-low : goal.returns-then-row-low
-returns-then-row-low c =
-    ap (λ o. unless o (value tt)) (sym (fault_order _ _ _ _ c.if-row-low.true) ∙ left_some c.loop-i.invariant (omega arith))
+returns-then-row-low c = ap (λ o. unless o (value tt)) (sym (fault_order _ _ _ _ c.if-row-low.true) ∙ left_some c.loop-i.invariant (omega arith))
 
 pub returns-then-row_count-row : goal.returns-then-row_count-row
 returns-then-row_count-row c =
@@ -17,8 +16,7 @@ returns-then-row_count-row c =
     (sym (fault_range _ _ _ _ c.if-row-low.false c.if-row_count-row.true) ∙ left_some c.loop-i.invariant (omega arith))
 
 pub loop-i-preserved : goal.loop-i-preserved
-loop-i-preserved c =
-    left_more c.loop-i.invariant _ (omega arith) (λ xs. fault_later _ _ _ xs c.if-row-low.false c.if-row_count-row.false)
+loop-i-preserved c = left_more c.loop-i.invariant _ (omega arith) (λ xs. fault_later _ _ _ xs c.if-row-low.false c.if-row_count-row.false)
 
 pub returns : goal.returns
 unfolding row_fault

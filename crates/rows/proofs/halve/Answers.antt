@@ -4,8 +4,7 @@ use Rattle.rows.proofs.RowLaws.{between_up, between_down, between_end}
 use Rattle.rows.proofs.halve.Goals as goal
 
 pub loop-left-init : goal.loop-left-init
-loop-left-init c =
-    record { some = c.requires.le_few.0; within = c.requires.le_few.1; below = c.requires.le_few.2; above = c.requires.end_bound }
+loop-left-init c = record { some = c.requires.le_few.0; within = c.requires.le_few.1; below = c.requires.le_few.2; above = c.requires.end_bound }
 
 pub overflow_cast-rows : goal.overflow_cast-rows
 overflow_cast-rows c = omega (arith, c.type_inv.rows (c.loop-left.base + c.loop-left.left / 2))

@@ -29,6 +29,3 @@ loop-i-preserved c = measuring_more c.loop-i.invariant _ _ c.block_run-to.ensure
 
 pub returns : goal.returns
 returns c = measuring_end c.loop-i.invariant (omega arith)
-
-pub data_size-bytes-requires : goal.data_size-bytes-requires
-data_size-bytes-requires c = search rules

@@ -3,8 +3,7 @@ use native.Mathlib.Omega.{arith}
 use Rattle.rows.proofs.run_end.Goals as goal
 
 pub loop-step-init : goal.loop-step-init
-loop-step-init c =
-    record { inside = c.requires.from_in_bounds.0; below = c.requires.from_in_bounds.1; some = omega arith }
+loop-step-init c = record { inside = c.requires.from_in_bounds.0; below = c.requires.from_in_bounds.1; some = omega arith }
 
 pub overflow_cast-rows : goal.overflow_cast-rows
 overflow_cast-rows c = omega (arith, c.type_inv.rows (c.loop-step.at + c.loop-step.step))

@@ -1,8 +1,9 @@
 use Prim.Native.Nat.{◌*◌, ◌/◌, ◌≤◌}
 use native.Mathlib.Omega.{arith}
 use lib.Dec.{leb}
+use Rattle.words.proofs.TestLaws.{times_bit}
 use Rattle.search.proofs.SearchLaws.{finds_end}
-use Rattle.search.proofs.TurnLaws.{halving_all, times_bit, halving_more, halved_below, halved_at}
+use Rattle.search.proofs.TurnLaws.{halving_all, halving_more, halved_below, halved_at}
 use Rattle.search.proofs.binary_search.Goals as goal
 
 -- no place
@@ -13,33 +14,18 @@ pub loop-size-init : goal.loop-size-init
 loop-size-init c = halving_all _ _ (omega arith)
 
 pub loop-size-preserved : goal.loop-size-preserved
-loop-size-preserved c =
-    halving_more c.loop-size.invariant _ _ c.loop-size-test.true c.value_at_idx-p.ensures c.not_above.ensures
+loop-size-preserved c = halving_more c.loop-size.invariant _ _ c.loop-size-test.true c.value_at_idx-p.ensures c.not_above.ensures
 
 pub returns-then-p-target : goal.returns-then-p-target
-returns-then-p-target c =
-    halved_below c.loop-size.invariant _ c.loop-size-test.false c.value_at_idx-p-2.ensures c.if-p-target.true
+returns-then-p-target c = halved_below c.loop-size.invariant _ c.loop-size-test.false c.value_at_idx-p-2.ensures c.if-p-target.true
 
 pub returns : goal.returns
-returns c =
-    halved_at c.loop-size.invariant _ _ c.value_at_idx-p-2.ensures c.if-p-target.false c.answer_at.ensures
-
-pub value_at_idx-p-requires : goal.value_at_idx-p-requires
-value_at_idx-p-requires c = omega arith
-
-pub not_above-requires : goal.not_above-requires
-not_above-requires c = tt
+returns c = halved_at c.loop-size.invariant _ _ c.value_at_idx-p-2.ensures c.if-p-target.false c.answer_at.ensures
 
 pub overflow_mul-base : goal.overflow_mul-base
-overflow_mul-base c = let moved : c.loop-size.size / 2 * c.not_above.result ≤ c.loop-size.size / 2 = let a = c.args in times_bit _ _ (leb c.value_at_idx-p.result a.target) c.not_above.ensures in
-    omega (arith, moved)
+overflow_mul-base c =
+    omega (arith, times_bit (c.loop-size.size / 2) _ _ c.not_above.ensures)
 
 pub overflow_add-base-in-loop-size : goal.overflow_add-base-in-loop-size
-overflow_add-base-in-loop-size c = let moved : c.loop-size.size / 2 * c.not_above.result ≤ c.loop-size.size / 2 = let a = c.args in times_bit _ _ (leb c.value_at_idx-p.result a.target) c.not_above.ensures in
-    omega (arith, moved)
-
-pub value_at_idx-p-requires-2 : goal.value_at_idx-p-requires-2
-value_at_idx-p-requires-2 c = omega arith
-
-pub answer_at-requires : goal.answer_at-requires
-answer_at-requires c = tt
+overflow_add-base-in-loop-size c =
+    omega (arith, times_bit (c.loop-size.size / 2) _ _ c.not_above.ensures)

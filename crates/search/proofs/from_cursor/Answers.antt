@@ -13,8 +13,7 @@ returns-then-cursor-n c = finds_end _ refl (λ rises known k l. known k (omega a
 
 -- its place is not below the target
 pub returns-then-target-p : goal.returns-then-target-p
-returns-then-target-p c =
-    finds_at _ _ _ (omega arith) c.value_at_idx-p.ensures c.if-target-p.true (λ rises known. known) c.answer_at.ensures
+returns-then-target-p c = finds_at _ _ _ (omega arith) c.value_at_idx-p.ensures c.if-target-p.true (λ rises known. known) c.answer_at.ensures
 
 -- it is, and is the last
 pub returns-then-next-n : goal.returns-then-next-n
@@ -33,18 +32,3 @@ returns-then-target-q c =
 
 pub returns : goal.returns
 returns c = finds_all c.narrowed_search.ensures
-
-pub value_at_idx-p-requires : goal.value_at_idx-p-requires
-value_at_idx-p-requires c = search rules
-
-pub answer_at-requires : goal.answer_at-requires
-answer_at-requires c = tt
-
-pub value_at_idx-q-requires : goal.value_at_idx-q-requires
-value_at_idx-q-requires c = search rules
-
-pub answer_at-requires-then-target-q : goal.answer_at-requires-then-target-q
-answer_at-requires-then-target-q c = tt
-
-pub narrowed_search-requires : goal.narrowed_search-requires
-narrowed_search-requires c = search rules

@@ -6,6 +6,3 @@ use Rattle.search.proofs.value_at_idx.Goals as goal
 
 pub returns : goal.returns
 returns c = c.u16_at.ensures ∙ sym (place_at c.args.part.now c.args.i c.requires)
-
-pub u16_at-requires : goal.u16_at-requires
-u16_at-requires c = omega arith

@@ -41,8 +41,7 @@ pub shape_of-ranks : goal.shape_of-ranks
 shape_of-ranks c = c.loop-i.invariant.filled.ranks_long
 
 pub returns : goal.returns
-returns c =
-    asking_all c.loop-i.invariant c.requires.is_sparse c.loop-i-test.false c.requires.room.0 c.requires.room.1
+returns c = asking_all c.loop-i.invariant c.requires.is_sparse c.loop-i-test.false c.requires.room.0 c.requires.room.1
 
 pub from_cursor-requires : goal.from_cursor-requires
 from_cursor-requires c = c.loop-i.invariant.inside

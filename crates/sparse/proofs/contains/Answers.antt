@@ -7,6 +7,3 @@ returns-in-Found c = λ ps d. found_there c.requires c.binary_search.ensures ps 
 
 pub returns-in-Insert : goal.returns-in-Insert
 returns-in-Insert c = λ ps d. insert_absent c.requires c.binary_search.ensures ps d c.in-Insert.is
-
-pub binary_search-requires : goal.binary_search-requires
-binary_search-requires c = tt

@@ -10,18 +10,8 @@ pub loop-i-init : goal.loop-i-init
 loop-i-init c = checking_none _ _ (omega arith)
 
 pub loop-i-preserved : goal.loop-i-preserved
-loop-i-preserved c =
-    checking_more c.loop-i.invariant _ _ (omega arith) c.value_at_idx.ensures c.value_at_idx-in-loop-i.ensures
+loop-i-preserved c = checking_more c.loop-i.invariant _ _ (omega arith) c.value_at_idx.ensures c.value_at_idx-in-loop-i.ensures
 
 pub returns : goal.returns
 returns c =
     checking_all c.loop-i.invariant _ _ c.loop-i-test.false (omega arith) c.value_at_idx-2.ensures ∙ content c.args.rows _ _ c.requires.0 c.requires.1
-
-pub value_at_idx-requires : goal.value_at_idx-requires
-value_at_idx-requires c = omega arith
-
-pub value_at_idx-requires-in-loop-i : goal.value_at_idx-requires-in-loop-i
-value_at_idx-requires-in-loop-i c = omega arith
-
-pub value_at_idx-requires-2 : goal.value_at_idx-requires-2
-value_at_idx-requires-2 c = omega arith

@@ -14,11 +14,4 @@ returns-in-Found c =
     ap some (rank_says sparse finds ps d (sym (ap index_of is)) c.to_u32.ensures) ∙ sym (lookup_member _ ps (sym (found_there sparse finds ps d is)))
 
 pub returns-in-Insert : goal.returns-in-Insert
-returns-in-Insert c =
-    λ ps d. sym (lookup_absent _ ps (sym (insert_absent c.requires c.binary_search.ensures ps d c.in-Insert.is)))
-
-pub binary_search-requires : goal.binary_search-requires
-binary_search-requires c = tt
-
-pub to_u32-requires : goal.to_u32-requires
-to_u32-requires c = tt
+returns-in-Insert c = λ ps d. sym (lookup_absent _ ps (sym (insert_absent c.requires c.binary_search.ensures ps d c.in-Insert.is)))

@@ -14,14 +14,4 @@ returns-then-i-part c =
     }
 
 pub returns : goal.returns
-returns c =
-    record { inside = tt; exact = λ ps d. next_none c.requires c.binary_search.ensures ps d c.index-i.ensures c.if-i-part.false }
-
-pub binary_search-requires : goal.binary_search-requires
-binary_search-requires c = tt
-
-pub index-i-requires : goal.index-i-requires
-index-i-requires c = tt
-
-pub value_at_idx-requires : goal.value_at_idx-requires
-value_at_idx-requires c = omega arith
+returns c = record { inside = tt; exact = λ ps d. next_none c.requires c.binary_search.ensures ps d c.index-i.ensures c.if-i-part.false }

@@ -23,6 +23,3 @@ pub returns : goal.returns
 returns c =
     let l = c.loop-j.invariant in
     list_end l c.requires.is_sparse (omega (arith, l.long))
-
-pub value_at_idx-requires : goal.value_at_idx-requires
-value_at_idx-requires c = omega arith

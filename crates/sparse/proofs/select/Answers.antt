@@ -14,6 +14,3 @@ returns-then-i-part c =
 pub returns : goal.returns
 returns c =
     record { inside = omega arith; exact = λ ps d. sym (select_past c.args.k ps (omega (arith, c.if-i-part.false, length_places c.args.part.now, ap length (held _ ps c.requires d)))) }
-
-pub value_at_idx-requires : goal.value_at_idx-requires
-value_at_idx-requires c = omega arith

@@ -12,6 +12,3 @@ loop-i-preserved c =
 
 pub returns : goal.returns
 returns c = writing_all c.loop-i.invariant c.loop-i-test.false
-
-pub put_u16-requires : goal.put_u16-requires
-put_u16-requires c = omega arith

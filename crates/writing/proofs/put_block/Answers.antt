@@ -22,11 +22,5 @@ returns c =
     (data_laid c.args.rows.now c.args.out.now _ c.args.at _ c.put_data.ensures c.data_size.ensures (omega (arith, c.requires.room)))
     (entry_part c.args.rows.now _ _ c.to_bytes-entry.ensures)
 
-pub data_size-requires : goal.data_size-requires
-data_size-requires c = search rules
-
 pub put_data-requires : goal.put_data-requires
 put_data-requires c = record { out_long = search rules; rows_rise = search rules }
-
-pub copy-requires : goal.copy-requires
-copy-requires c = search rules

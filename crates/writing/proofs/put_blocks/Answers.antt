@@ -40,14 +40,10 @@ loop-i-smaller c = let r = c.block_run-end.ensures in omega (arith, r.some, r.wi
 
 pub loop-i-preserved : goal.loop-i-preserved
 unfolding part
-loop-i-preserved c =
-    putting_more c.loop-i.invariant c.block_run-end.ensures _ _ c.data_size-a.ensures c.put_block.ensures
+loop-i-preserved c = putting_more c.loop-i.invariant c.block_run-end.ensures _ _ c.data_size-a.ensures c.put_block.ensures
 
 pub shape_of-out : goal.shape_of-out
 shape_of-out c = c.loop-i.invariant.long
 
 pub returns : goal.returns
 returns c = putting_all c.loop-i.invariant (omega arith)
-
-pub data_size-a-requires : goal.data_size-a-requires
-data_size-a-requires c = search rules

@@ -12,8 +12,7 @@ pub returns-then-rows-lt5120 : goal.returns-then-rows-lt5120
 returns-then-rows-lt5120 c = c.write.ensures ∙ data_few c.args.rows.now c.if-rows-lt5120.true
 
 pub write-requires-2 : goal.write-requires-2
-write-requires-2 c =
-    record { out_long = omega (arith, c.requires.out_long, size_dense _ c.if-rows-lt5120.false); rows_rise = c.requires.rows_rise }
+write-requires-2 c = record { out_long = omega (arith, c.requires.out_long, size_dense _ c.if-rows-lt5120.false); rows_rise = c.requires.rows_rise }
 
 pub returns : goal.returns
 returns c = c.write-2.ensures.wrote ∙ data_many c.args.rows.now c.if-rows-lt5120.false

@@ -43,12 +43,3 @@ returns c =
     written_whole c.requires c.args.out.now _ _ n (omega arith)
     (file_stored c.args.row_count c.args.rows.now c.args.out.now _ _ _ q h (omega (arith, n)) _ _ _
     c.write.ensures.wrote c.put_blocks.ensures c.put_u16.ensures)
-
-pub size-start-requires : goal.size-start-requires
-size-start-requires c = search rules
-
-pub write-requires : goal.write-requires
-write-requires c = search rules
-
-pub put_u16-requires : goal.put_u16-requires
-put_u16-requires c = search rules

@@ -10,12 +10,7 @@ pub returns-then-row_count-gt4294901760 : goal.returns-then-row_count-gt42949017
 returns-then-row_count-gt4294901760 c = too_many _ _ _ c.if-row_count-gt4294901760.true
 
 pub put_file-requires : goal.put_file-requires
-put_file-requires c =
-    permitted c.args.row_count c.args.rows.now (omega arith) (sym (ap done c.in-Yes.is) ∙ c.fault.ensures)
+put_file-requires c = permitted c.args.row_count c.args.rows.now (omega arith) (sym (ap done c.in-Yes.is) ∙ c.fault.ensures)
 
 pub returns-in-Refused : goal.returns-in-Refused
-returns-in-Refused c =
-    faulty c.args.row_count c.args.rows.now _ _ (omega arith) (sym (ap done c.in-Refused.is) ∙ c.fault.ensures)
-
-pub fault-requires : goal.fault-requires
-fault-requires c = search rules
+returns-in-Refused c = faulty c.args.row_count c.args.rows.now _ _ (omega arith) (sym (ap done c.in-Refused.is) ∙ c.fault.ensures)

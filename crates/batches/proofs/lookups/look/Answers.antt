@@ -22,9 +22,3 @@ pub returns-in-Nothing : goal.returns-in-Nothing
 returns-in-Nothing c =
     look_nothing _ _ _ (λ i. (c.type_inv.bytes i).fits) c.requires _ c.if-record-row.false _ c.part-part.ensures _ c.lookup.ensures
     c.in-Nothing.is
-
-pub lookup-requires : goal.lookup-requires
-lookup-requires c = search rules
-
-pub wrapping_add_u32-requires : goal.wrapping_add_u32-requires
-wrapping_add_u32-requires c = search rules

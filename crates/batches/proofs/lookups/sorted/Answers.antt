@@ -24,9 +24,8 @@ run_end-to-requires c = record { from_in_bounds = (omega arith, omega arith); ne
 pub in_block-n-requires : goal.in_block-n-requires
 unfolding part
 in_block-n-requires c =
-    let to : Ran c.args.questions.now c.loop-i.i c.run_end-to.result = ran _ _ _ c.loop-i-test.true c.requires.never_falls c.run_end-to.ensures in
     let l = c.loop-i in
-    let r = to in
+    let r = ran _ _ _ c.loop-i-test.true c.requires.never_falls c.run_end-to.ensures in
     let f = l.invariant.loose in
     let many = r.many in record {
       unbroken = c.requires.unbroken;
@@ -41,22 +40,18 @@ in_block-n-requires c =
 pub overflow_add-n : goal.overflow_add-n
 unfolding part
 overflow_add-n c =
-    let to : Ran c.args.questions.now c.loop-i.i c.run_end-to.result = ran _ _ _ c.loop-i-test.true c.requires.never_falls c.run_end-to.ensures in
-    let r = to in
+    let r = ran _ _ _ c.loop-i-test.true c.requires.never_falls c.run_end-to.ensures in
     let many = r.many in
     omega (arith, c.in_block-n.ensures.fewer, c.loop-i.invariant.loose.fewer, r.within)
 
 pub loop-i-smaller : goal.loop-i-smaller
-loop-i-smaller c =
-    let to : Ran c.args.questions.now c.loop-i.i c.run_end-to.result = ran _ _ _ c.loop-i-test.true c.requires.never_falls c.run_end-to.ensures in
-    let r = to in omega (arith, r.some, r.within)
+loop-i-smaller c = let r = ran _ _ _ c.loop-i-test.true c.requires.never_falls c.run_end-to.ensures in omega (arith, r.some, r.within)
 
 pub loop-i-preserved : goal.loop-i-preserved
 unfolding part
 loop-i-preserved c =
-    let to : Ran c.args.questions.now c.loop-i.i c.run_end-to.result = ran _ _ _ c.loop-i-test.true c.requires.never_falls c.run_end-to.ensures in
     let p = c.requires.room in
-    let r = to in
+    let r = ran _ _ _ c.loop-i-test.true c.requires.never_falls c.run_end-to.ensures in
     seeking_run c.loop-i.invariant _ _ _ _ (omega (arith, r.some)) r.within p.0 p.1 c.in_block-n.ensures
     c.rows-1.given.0 c.ranks-1.given.0
 
@@ -70,13 +65,10 @@ pub returns : goal.returns
 returns c = let p = c.requires.room in seeking_all c.loop-i.invariant (omega arith) p.0 p.1
 
 pub slice_bounds-some-count : goal.slice_bounds-some-count
-slice_bounds-some-count c = let to : Ran c.args.questions.now c.loop-i.i c.run_end-to.result = ran _ _ _ c.loop-i-test.true c.requires.never_falls c.run_end-to.ensures in
-    omega (arith, to.some)
+slice_bounds-some-count c = omega (arith, (ran _ _ _ c.loop-i-test.true c.requires.never_falls c.run_end-to.ensures).some)
 
 pub slice_bounds-some-start : goal.slice_bounds-some-start
-slice_bounds-some-start c = let to : Ran c.args.questions.now c.loop-i.i c.run_end-to.result = ran _ _ _ c.loop-i-test.true c.requires.never_falls c.run_end-to.ensures in
-    omega (arith, to.some)
+slice_bounds-some-start c = omega (arith, (ran _ _ _ c.loop-i-test.true c.requires.never_falls c.run_end-to.ensures).some)
 
 pub slice_bounds-some-end : goal.slice_bounds-some-end
-slice_bounds-some-end c = let to : Ran c.args.questions.now c.loop-i.i c.run_end-to.result = ran _ _ _ c.loop-i-test.true c.requires.never_falls c.run_end-to.ensures in
-    omega (arith, to.within)
+slice_bounds-some-end c = omega (arith, (ran _ _ _ c.loop-i-test.true c.requires.never_falls c.run_end-to.ensures).within)

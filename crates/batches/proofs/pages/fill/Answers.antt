@@ -67,11 +67,4 @@ pub shape_of-rows : goal.shape_of-rows
 shape_of-rows c = c.loop-done.invariant.long
 
 pub returns : goal.returns
-returns c =
-    let l = c.loop-done.invariant in paging_end _ _ _ (λ i. (c.type_inv.bytes i).fits) _ _ _ _ _ l (omega (arith, l.long))
-
-pub block_count-blocks-requires : goal.block_count-blocks-requires
-block_count-blocks-requires c = search rules
-
-pub room-requires : goal.room-requires
-room-requires c = search rules
+returns c = let l = c.loop-done.invariant in paging_end _ _ _ (λ i. (c.type_inv.bytes i).fits) _ _ _ _ _ l (omega (arith, l.long))

@@ -14,9 +14,3 @@ pub returns : goal.returns
 returns c =
     listed_in _ _ _ (λ i. (c.type_inv.bytes i).fits) _ _ _ _ _ _ c.requires.block_below c.part-part.ensures c.wrapping_sub_u32-place.ensures.value
     (omega arith) c.page.ensures
-
-pub wrapping_sub_u32-place-requires : goal.wrapping_sub_u32-place-requires
-wrapping_sub_u32-place-requires c = search rules
-
-pub page-requires : goal.page-requires
-page-requires c = search rules

@@ -6,6 +6,3 @@ pub returns-then-k-directory : goal.returns-then-k-directory
 returns-then-k-directory c =
     let i : 2 * c.args.block + 2 ≡ 2 * (c.args.block + 1) = omega arith in
     record { one = c.requires.0; has = λ up low high. (c.if-directory-block.true, omega (arith, ap (λ i. get_or c.args.directory.now i 0) i, c.if-k-directory.true)) }
-
-pub find_block-requires : goal.find_block-requires
-find_block-requires c = search rules

@@ -27,8 +27,7 @@ pub offset_bounds-directory-block : goal.offset_bounds-directory-block
 offset_bounds-directory-block c = omega (arith, c.block_of-block.ensures.one)
 
 pub bounds-directory-block : goal.bounds-directory-block
-bounds-directory-block c =
-    omega (arith, c.block_of-block.ensures.one, c.block_count-blocks.ensures, (unbroken _ _ _ c.requires.unbroken).words)
+bounds-directory-block c = omega (arith, c.block_of-block.ensures.one, c.block_count-blocks.ensures, (unbroken _ _ _ c.requires.unbroken).words)
 
 pub slice_bounds-fill_in-count : goal.slice_bounds-fill_in-count
 slice_bounds-fill_in-count c = omega (arith, c.run_end-to.ensures.some)
@@ -56,11 +55,4 @@ pub shape_of-ranks : goal.shape_of-ranks
 shape_of-ranks c = c.loop-i.invariant.long
 
 pub returns : goal.returns
-returns c =
-    let l = c.loop-i.invariant in replacing_end _ _ _ (λ i. (c.type_inv.bytes i).fits) _ _ _ _ l (omega (arith, l.long))
-
-pub block_count-blocks-requires : goal.block_count-blocks-requires
-block_count-blocks-requires c = search rules
-
-pub run_end-to-requires : goal.run_end-to-requires
-run_end-to-requires c = omega arith
+returns c = let l = c.loop-i.invariant in replacing_end _ _ _ (λ i. (c.type_inv.bytes i).fits) _ _ _ _ l (omega (arith, l.long))

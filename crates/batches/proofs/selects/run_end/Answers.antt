@@ -13,6 +13,3 @@ loop-to-preserved c = run_more _ _ _ _ c.loop-to.invariant (omega (arith, c.room
 
 pub returns : goal.returns
 returns c = c.loop-to.invariant
-
-pub room-requires : goal.room-requires
-room-requires c = search rules

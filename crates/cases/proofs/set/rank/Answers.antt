@@ -7,12 +7,10 @@ pub loop-i-init : goal.loop-i-init
 loop-i-init c = (omega arith, left_none _ _)
 
 pub loop-i-preserved-then-row-d : goal.loop-i-preserved-then-row-d
-loop-i-preserved-then-row-d c =
-    (omega arith, left_more c.loop-i.invariant.1 _ (omega arith) (λ xs. omega (arith, rank_below _ _ xs c.if-row-d.true)))
+loop-i-preserved-then-row-d c = (omega arith, left_more c.loop-i.invariant.1 _ (omega arith) (λ xs. omega (arith, rank_below _ _ xs c.if-row-d.true)))
 
 pub loop-i-preserved : goal.loop-i-preserved
-loop-i-preserved c =
-    (omega arith, left_more c.loop-i.invariant.1 _ (omega arith) (λ xs. omega (arith, rank_above _ _ xs c.if-row-d.false)))
+loop-i-preserved c = (omega arith, left_more c.loop-i.invariant.1 _ (omega arith) (λ xs. omega (arith, rank_above _ _ xs c.if-row-d.false)))
 
 pub returns : goal.returns
 unfolding rank

@@ -19,29 +19,20 @@ returns-then-not-entry_ok c =
 
 pub overflow_add-rows : goal.overflow_add-rows
 overflow_add-rows c =
-    let passed : is_entry c.args.row_count c.loop-left.low c.entry_at-x.result ≡ true = sym c.entry_ok.ensures ∙ c.if-not-entry_ok.false in
     let x = c.entry_at-x in
-    let s = adding_small c.loop-left.invariant x.result (omega arith) x.ensures passed in
+    let s = adding_small c.loop-left.invariant x.result (omega arith) x.ensures (sym c.entry_ok.ensures ∙ c.if-not-entry_ok.false) in
     omega (arith, s.few)
 
 pub overflow_add-size : goal.overflow_add-size
 overflow_add-size c =
-    let passed : is_entry c.args.row_count c.loop-left.low c.entry_at-x.result ≡ true = sym c.entry_ok.ensures ∙ c.if-not-entry_ok.false in
     let x = c.entry_at-x in
-    let s = adding_small c.loop-left.invariant x.result (omega arith) x.ensures passed in
+    let s = adding_small c.loop-left.invariant x.result (omega arith) x.ensures (sym c.entry_ok.ensures ∙ c.if-not-entry_ok.false) in
     omega (arith, c.data_size-size.ensures, s.bytes')
 
 pub loop-left-preserved : goal.loop-left-preserved
 loop-left-preserved c =
-    let passed : is_entry c.args.row_count c.loop-left.low c.entry_at-x.result ≡ true = sym c.entry_ok.ensures ∙ c.if-not-entry_ok.false in
     let x = c.entry_at-x in
-    adding_more c.loop-left.invariant x.result (omega arith) x.ensures _ c.data_size-size.ensures passed
+    adding_more c.loop-left.invariant x.result (omega arith) x.ensures _ c.data_size-size.ensures (sym c.entry_ok.ensures ∙ c.if-not-entry_ok.false)
 
 pub returns : goal.returns
 returns c = adding_end c.loop-left.invariant (omega arith)
-
-pub entry_ok-requires : goal.entry_ok-requires
-entry_ok-requires c = search rules
-
-pub data_size-size-requires : goal.data_size-size-requires
-data_size-size-requires c = search rules

@@ -7,6 +7,3 @@ use Rattle.judging.proofs.entries.entry_at.Goals as goal
 
 pub returns : goal.returns
 returns c = c.from_bytes.ensures ∙ ap entry_in (sym (four_bytes _ _ c.requires))
-
-pub from_bytes-requires : goal.from_bytes-requires
-from_bytes-requires c = search rules

@@ -10,11 +10,4 @@ pub returns-then-block_count-x : goal.returns-then-block_count-x
 returns-then-block_count-x c = rw (le-leb _ _ c.if-x-low.false, le-ltb _ _ (rw c.block_count.ensures at c.if-block_count-x.true))
 
 pub returns : goal.returns
-returns c =
-    rw (c.rows_at.ensures, le-leb _ _ c.if-x-low.false, lt-ltb _ _ (rw c.block_count.ensures at c.if-block_count-x.false))
-
-pub block_count-requires : goal.block_count-requires
-block_count-requires c = search rules
-
-pub rows_at-requires : goal.rows_at-requires
-rows_at-requires c = search rules
+returns c = rw (c.rows_at.ensures, le-leb _ _ c.if-x-low.false, lt-ltb _ _ (rw c.block_count.ensures at c.if-block_count-x.false))

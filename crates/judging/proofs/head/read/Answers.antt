@@ -15,18 +15,13 @@ pub slice_bounds-read-end : goal.slice_bounds-read-end
 slice_bounds-read-end c = sym (length-take-le _ _ (omega arith))
 
 pub returns-then-c-gt-LIMIT : goal.returns-then-c-gt-LIMIT
-returns-then-c-gt-LIMIT c =
-    sym (head_read _ ∙ ap head_from (sym c.read.ensures ∙ c.in-Is.is) ∙ rw (lt-ltb limit c.in-Is.c.count (omega arith)))
+returns-then-c-gt-LIMIT c = sym (head_read _ ∙ ap head_from (sym c.read.ensures ∙ c.in-Is.is) ∙ rw (lt-ltb limit c.in-Is.c.count (omega arith)))
 
 pub returns-else-c-gt-LIMIT : goal.returns-else-c-gt-LIMIT
-returns-else-c-gt-LIMIT c =
-    sym (head_read _ ∙ ap head_from (sym c.read.ensures ∙ c.in-Is.is) ∙ rw (le-ltb limit c.in-Is.c.count (omega arith)))
+returns-else-c-gt-LIMIT c = sym (head_read _ ∙ ap head_from (sym c.read.ensures ∙ c.in-Is.is) ∙ rw (le-ltb limit c.in-Is.c.count (omega arith)))
 
 pub returns-in-Padded : goal.returns-in-Padded
 returns-in-Padded c = sym (head_read _ ∙ ap head_from (sym c.read.ensures ∙ c.in-Padded.is))
 
 pub returns-in-Unended : goal.returns-in-Unended
 returns-in-Unended c = sym (head_read _ ∙ ap head_from (sym c.read.ensures ∙ c.in-Unended.is))
-
-pub read-requires : goal.read-requires
-read-requires c = search rules

@@ -12,7 +12,8 @@ loop-i-init c = (omega arith, λ p. refl)
 
 -- no place is left
 pub returns-then-left-eq0 : goal.returns-then-left-eq0
-returns-then-left-eq0 c = λ p.
+returns-then-left-eq0 c =
+    λ p.
     let l = c.loop-i in
     let n = c.args.n in
     let word = c.args.bitvec in
@@ -28,7 +29,8 @@ loop-i-preserved c =
     )
 
 pub returns : goal.returns
-returns c = λ p.
+returns c =
+    λ p.
     let l = c.loop-i in
     let all : l.i ≡ c.args.n = omega arith in
     l.invariant.1 p ∙ ap (λ k. drop k (bits 64 p c.args.bitvec)) all

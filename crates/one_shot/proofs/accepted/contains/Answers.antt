@@ -21,6 +21,3 @@ returns c =
     λ h gs v.
     let o = opens _ _ (λ i. (c.type_inv.bytes i).fits) c.requires h gs v in
     contains_is o _ _ c.of_block-spot.ensures _ (λ ps x. c.contains.ensures ps (rw c.part.ensures x))
-
-pub contains-requires : goal.contains-requires
-contains-requires c = search rules

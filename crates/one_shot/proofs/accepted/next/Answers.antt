@@ -48,6 +48,3 @@ returns-else-record-later c =
 
 pub select-requires : goal.select-requires
 select-requires c = record { accepted = c.requires; k_below = c.if-record-later.false }
-
-pub next-requires : goal.next-requires
-next-requires c = search rules

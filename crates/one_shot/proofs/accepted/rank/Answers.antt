@@ -4,7 +4,7 @@ use native.Mathlib.Omega.{arith}
 use borrow.Author.Rules.{rules}
 use Prim.Native.Nat.{◌+◌, ◌^◌, ◌<◌}
 use Rattle.spec.proofs.Questions.{rank_all}
-use Rattle.one_shot.proofs.AnswerLaws.{opens, rise, populated', entries_fit, block_within, rank_is, rank_fits}
+use Rattle.one_shot.proofs.AnswerLaws.{opens, rise, populated', entries_fit, block_within, rank_is, rank_small}
 use Rattle.one_shot.proofs.accepted.rank.Goals as goal
 
 pub returns-then-record-row : goal.returns-then-record-row
@@ -24,13 +24,10 @@ returns c =
     let o = opens _ _ (λ i. (c.type_inv.bytes i).fits) c.requires h gs v in
     rank_is o _ _ c.of_block-spot.ensures _ (λ ps x. c.rank-below.ensures ps (rw c.part.ensures x))
 
-pub rank-below-requires : goal.rank-below-requires
-rank-below-requires c = search rules
-
 pub overflow_add-result : goal.overflow_add-result
-overflow_add-result c = let small : c.of_block-spot.result.rows + c.rank-below.result < 2 ^ 32 = rank_fits _ _ (λ i. (c.type_inv.bytes i).fits) c.requires _ c.args.row (λ h gs o. rank_is o _ _ c.of_block-spot.ensures _ (λ ps x. c.rank-below.ensures ps (rw c.part.ensures x))) in
-    omega (arith, small)
+overflow_add-result c =
+    omega (arith, rank_small _ _ (λ i. (c.type_inv.bytes i).fits) c.requires _ _ c.of_block-spot.ensures _ (λ ps x. c.rank-below.ensures ps (rw c.part.ensures x)))
 
 pub overflow_cast-result-2 : goal.overflow_cast-result-2
-overflow_cast-result-2 c = let small : c.of_block-spot.result.rows + c.rank-below.result < 2 ^ 32 = rank_fits _ _ (λ i. (c.type_inv.bytes i).fits) c.requires _ c.args.row (λ h gs o. rank_is o _ _ c.of_block-spot.ensures _ (λ ps x. c.rank-below.ensures ps (rw c.part.ensures x))) in
-    omega (arith, small)
+overflow_cast-result-2 c =
+    omega (arith, rank_small _ _ (λ i. (c.type_inv.bytes i).fits) c.requires _ _ c.of_block-spot.ensures _ (λ ps x. c.rank-below.ensures ps (rw c.part.ensures x)))

@@ -8,18 +8,13 @@ pub of_rank-spot-requires : goal.of_rank-spot-requires
 of_rank-spot-requires c = entries_fit _ _ (λ i. (c.type_inv.bytes i).fits) c.requires.accepted
 
 pub overflow_sub-left : goal.overflow_sub-left
-overflow_sub-left c =
-    rank_upto _ _ (λ i. (c.type_inv.bytes i).fits) c.requires.accepted _ _ c.requires.k_below c.of_rank-spot.ensures
+overflow_sub-left c = rank_upto _ _ (λ i. (c.type_inv.bytes i).fits) c.requires.accepted _ _ c.requires.k_below c.of_rank-spot.ensures
 
 pub part-requires : goal.part-requires
-part-requires c =
-    rank_within _ _ (λ i. (c.type_inv.bytes i).fits) c.requires.accepted _ _ c.requires.k_below c.of_rank-spot.ensures
+part-requires c = rank_within _ _ (λ i. (c.type_inv.bytes i).fits) c.requires.accepted _ _ c.requires.k_below c.of_rank-spot.ensures
 
 pub returns : goal.returns
 returns c =
     λ h gs v.
     let o = opens _ _ (λ i. (c.type_inv.bytes i).fits) c.requires.accepted h gs v in
     select_is o _ _ _ _ c.requires.k_below c.of_rank-spot.ensures refl (λ ps x. c.select.ensures.exact ps (rw c.part.ensures x))
-
-pub select-requires : goal.select-requires
-select-requires c = search rules

@@ -47,6 +47,3 @@ overflow_sub-end c = omega (arith, c.requires)
 
 pub u16_at-left-requires : goal.u16_at-left-requires
 u16_at-left-requires c = omega (arith, c.requires)
-
-pub data_size-requires : goal.data_size-requires
-data_size-requires c = search rules

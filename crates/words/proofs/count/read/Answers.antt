@@ -11,9 +11,7 @@ pub returns-then-s-i : goal.returns-then-s-i
 returns-then-s-i c = short c.loop-i.invariant (omega arith)
 
 pub overflow_cast-b : goal.overflow_cast-b
-overflow_cast-b c =
-    let byte : get_or c.args.s.now c.loop-i.i 0 < 256 = (c.type_inv.s c.loop-i.i).fits in
-    omega (arith, byte)
+overflow_cast-b c = omega (arith, (c.type_inv.s c.loop-i.i).fits)
 
 pub overflow_mul-count : goal.overflow_mul-count
 overflow_mul-count c = omega (arith, room c.loop-i.invariant (omega arith))
@@ -23,18 +21,14 @@ overflow_add-count c = record { fits = room c.loop-i.invariant (omega arith) }
 
 pub returns-then-b-eq128 : goal.returns-then-b-eq128
 returns-then-b-eq128 c =
-    let byte : get_or c.args.s.now c.loop-i.i 0 < 256 = (c.type_inv.s c.loop-i.i).fits in
-    last_padded c.loop-i.invariant (omega arith) (omega arith) byte (omega arith) (omega arith) (omega arith)
+    last_padded c.loop-i.invariant (omega arith) (omega arith) (c.type_inv.s c.loop-i.i).fits (omega arith) (omega arith) (omega arith)
 
 pub returns-else-b-eq128 : goal.returns-else-b-eq128
 returns-else-b-eq128 c =
-    let byte : get_or c.args.s.now c.loop-i.i 0 < 256 = (c.type_inv.s c.loop-i.i).fits in
-    last_several c.loop-i.invariant (omega arith) (omega arith) byte (omega arith) (omega arith) (λ e. omega arith)
+    last_several c.loop-i.invariant (omega arith) (omega arith) (c.type_inv.s c.loop-i.i).fits (omega arith) (omega arith) (λ e. omega arith)
 
 pub returns-else-i-gt1 : goal.returns-else-i-gt1
-returns-else-i-gt1 c =
-    let byte : get_or c.args.s.now c.loop-i.i 0 < 256 = (c.type_inv.s c.loop-i.i).fits in
-    last_alone c.loop-i.invariant (omega arith) (omega arith) byte (omega arith) (omega arith)
+returns-else-i-gt1 c = last_alone c.loop-i.invariant (omega arith) (omega arith) (c.type_inv.s c.loop-i.i).fits (omega arith) (omega arith)
 
 pub overflow_mul-weight : goal.overflow_mul-weight
 overflow_mul-weight c = omega (arith, weight_le c.loop-i.invariant (omega arith))

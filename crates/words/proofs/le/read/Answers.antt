@@ -3,7 +3,7 @@ use mathlib.Core.Path.{◌≡◌}
 use native.Mathlib.Omega.{arith}
 use Rattle.spec.specs.Reading.{AreBytes, number_in}
 use Rattle.spec.proofs.Bytes.{part_none}
-use Rattle.words.proofs.LeLaws.{read_turn, part_lt}
+use Rattle.words.proofs.LeLaws.{read_turn, read_small}
 use Rattle.words.proofs.le.read.Goals as goal
 
 pub loop-k-init : goal.loop-k-init
@@ -12,22 +12,19 @@ loop-k-init c = (omega arith, rw (part_none (c.args.i + c.args.w) (c.args.i + c.
 
 pub overflow_cast-b : goal.overflow_cast-b
 overflow_cast-b c =
-    let bytes : AreBytes c.args.s.now = λ i. (c.type_inv.s i).fits in
-    let index : ℕ = c.args.i + (c.loop-k.k - 1) in
-    omega (arith, bytes index)
+    omega (arith, (c.type_inv.s (c.args.i + (c.loop-k.k - 1))).fits)
 
 pub overflow_mul-n : goal.overflow_mul-n
 overflow_mul-n c =
-    let bytes : AreBytes c.args.s.now = λ i. (c.type_inv.s i).fits in
-    let small : c.loop-k.n < 256 ^ 7 = let a = c.args in rw c.loop-k.invariant.1 (part_lt 7 (a.w - c.loop-k.k) (a.i + c.loop-k.k) (a.i + a.w) a.s.now bytes (omega arith) (omega arith) (omega arith)) in
-    omega (arith, small)
+    omega (arith, read_small c.args.s.now c.args.i c.args.w c.loop-k.k c.loop-k.n (λ i. (c.type_inv.s i).fits) (omega arith) (omega arith) (omega arith) (omega arith) c.loop-k.invariant.1)
 
 pub overflow_add-n : goal.overflow_add-n
 overflow_add-n c =
-    let bytes : AreBytes c.args.s.now = λ i. (c.type_inv.s i).fits in
-    let index : ℕ = c.args.i + (c.loop-k.k - 1) in
-    let small : c.loop-k.n < 256 ^ 7 = let a = c.args in rw c.loop-k.invariant.1 (part_lt 7 (a.w - c.loop-k.k) (a.i + c.loop-k.k) (a.i + a.w) a.s.now bytes (omega arith) (omega arith) (omega arith)) in
-    omega (arith, small, bytes index)
+    omega (
+      arith,
+      read_small c.args.s.now c.args.i c.args.w c.loop-k.k c.loop-k.n (λ i. (c.type_inv.s i).fits) (omega arith) (omega arith) (omega arith) (omega arith) c.loop-k.invariant.1,
+      (c.type_inv.s (c.args.i + (c.loop-k.k - 1))).fits,
+    )
 
 pub loop-k-preserved : goal.loop-k-preserved
 loop-k-preserved c =
