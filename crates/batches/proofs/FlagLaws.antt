@@ -1,8 +1,6 @@
 -- The two flags: questions that never fall, and ranks below n. What was seen so far, with what is left of the list, decides the whole.
-use Rattle.std.proofs.Common.{◌≡◌, ℕ, zero, suc, ◌+◌, ◌-◌, ◌<◌, ◌≤◌, Bool, true, false, ◌&&◌, leb, List, [], ◌∷◌, length, get_or, drop, sym, refl, ap, ◌∙◌, zero-le, add-one, arith, drop_of_length-le, drop-cons, le-ltb, lt-ltb, le-leb, leb-true}
-use borrow.Author.Tests.{lt-leb}
+use Rattle.std.proofs.Common.{◌≡◌, ℕ, ◌+◌, ◌<◌, ◌≤◌, Bool, true, false, ◌&&◌, List, length, get_or, sym, refl, ◌∙◌, arith, le-ltb, lt-ltb}
 use Rattle.spec.specs.Set.{below}
-use Rattle.spec.proofs.Tests.{and_true}
 use Rattle.spec.proofs.Steps.{Left, left_more, left_all}
 use Rattle.words.specs.Part.{NeverFalls}
 use Rattle.words.proofs.TestLaws.{and_no, and_yes}

@@ -1,7 +1,7 @@
 -- A flag over neighbours, without an early exit. What it is a flag of is a test of a list: no element is below `low`, and each is at
 -- or above what the one before it asks, `past`. What was seen so far, with what is left of the list, decides the whole.
 use Prim.Native.Nat.{ℕ, zero, suc, ◌+◌, ◌-◌, ◌≤◌, ◌<◌, zero-le}
-use mathlib.Core.Path.{◌≡◌, refl, sym, ap, ◌∙◌}
+use mathlib.Core.Path.{◌≡◌, sym, ap, ◌∙◌}
 use mathlib.Core.Bool.{Bool, true, false, ◌&&◌}
 use mathlib.Core.List.{List, [], ◌∷◌}
 use native.Mathlib.Numerals.{add-one}

@@ -1,7 +1,5 @@
 -- `contains` meets its contract. Assumes nothing.
-use Rattle.std.proofs.Common.{◌≡◌, false, sym, refl, ◌∙◌, rules}
-use Rattle.spec.specs.Reading.{AreBytes}
-use Rattle.spec.specs.Answers.{broken}
+use Rattle.std.proofs.Common.{sym, refl, ◌∙◌}
 use Rattle.spec.proofs.Asking.{asked_broken}
 use Rattle.asking.proofs.AnswerLaws.{contains_out, words_there, contains_in}
 use Rattle.asking.proofs.contains.Goals as goal

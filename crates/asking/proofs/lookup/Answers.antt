@@ -1,7 +1,5 @@
 -- `lookup` meets its contract. Assumes nothing.
-use Rattle.std.proofs.Common.{◌≡◌, false, sym, refl, ◌∙◌, arith, rules}
-use Rattle.spec.specs.Reading.{AreBytes}
-use Rattle.spec.specs.Answers.{broken}
+use Rattle.std.proofs.Common.{sym, refl, ◌∙◌, arith}
 use Rattle.spec.proofs.Asking.{asked_broken}
 use Rattle.asking.proofs.AnswerLaws.{lookup_out, words_there, lookup_at, lookup_nothing}
 use Rattle.asking.proofs.lookup.Goals as goal

@@ -1,7 +1,5 @@
 -- `next` meets its contract: where the block has no such place, the member at the rank of its end is the next. Assumes nothing.
-use Rattle.std.proofs.Common.{◌≡◌, ◌<◌, false, sym, refl, ◌∙◌, arith, rules}
-use Rattle.spec.specs.Reading.{AreBytes}
-use Rattle.spec.specs.Answers.{broken}
+use Rattle.std.proofs.Common.{◌<◌, sym, refl, ◌∙◌, arith}
 use Rattle.spec.proofs.Asking.{asked_broken}
 use Rattle.asking.proofs.AnswerLaws.{next_out, words_there, next_at, next_none, next_later}
 use Rattle.asking.proofs.next.Goals as goal

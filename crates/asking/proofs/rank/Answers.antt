@@ -1,7 +1,5 @@
 -- `rank` meets its contract. Assumes nothing.
-use Rattle.std.proofs.Common.{◌≡◌, false, sym, refl, ◌∙◌, arith, rules}
-use Rattle.spec.specs.Reading.{AreBytes}
-use Rattle.spec.specs.Answers.{broken}
+use Rattle.std.proofs.Common.{sym, refl, ◌∙◌, arith}
 use Rattle.spec.proofs.Asking.{asked_broken}
 use Rattle.asking.proofs.AnswerLaws.{rank_out, words_there, rank_in}
 use Rattle.asking.proofs.rank.Goals as goal

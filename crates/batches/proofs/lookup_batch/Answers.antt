@@ -1,6 +1,5 @@
 -- `lookup_batch` meets its contract. Assumes nothing.
-use Rattle.std.proofs.Common.{◌≡◌, false, sym, refl, ◌∙◌, rules}
-use Rattle.spec.specs.Answers.{broken}
+use Rattle.std.proofs.Common.{sym, refl, ◌∙◌}
 use Rattle.spec.proofs.Asking.{asked_broken}
 use Rattle.batches.proofs.FlagLaws.{never_falls}
 use Rattle.batches.proofs.OweLaws.{rows_short, ranks_short, looked_up}

@@ -1,6 +1,5 @@
 -- `page` meets its contract. Assumes nothing.
-use Rattle.std.proofs.Common.{◌≡◌, false, sym, refl, ◌∙◌, arith, length-take, rules}
-use Rattle.spec.specs.Answers.{broken}
+use Rattle.std.proofs.Common.{sym, refl, ◌∙◌, arith, length-take}
 use Rattle.spec.proofs.Asking.{asked_broken}
 use Rattle.batches.proofs.OweLaws.{rank_above, paged, no_page}
 use Rattle.batches.proofs.page.Goals as goal

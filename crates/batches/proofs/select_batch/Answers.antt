@@ -1,6 +1,5 @@
 -- `select_batch` meets its contract. Assumes nothing.
-use Rattle.std.proofs.Common.{◌≡◌, false, sym, refl, ◌∙◌, rules}
-use Rattle.spec.specs.Answers.{broken}
+use Rattle.std.proofs.Common.{sym, refl, ◌∙◌}
 use Rattle.spec.proofs.Asking.{asked_broken}
 use Rattle.batches.proofs.OweLaws.{bad_rank, all_selected}
 use Rattle.batches.proofs.select_batch.Goals as goal

@@ -1,5 +1,4 @@
 -- `codes::of_answer` meets its contract: a refusal's number is what `refused` ensures. Assumes nothing.
-use borrow.Author.Rules.{rules}
 use Rattle.codes.proofs.of_answer.Goals as goal
 
 pub returns-in-Refused : goal.returns-in-Refused

@@ -1,4 +1,4 @@
-use Rattle.std.proofs.Common.{[], arith, rules}
+use Rattle.std.proofs.Common.{[], arith}
 use Rattle.words.proofs.FillLaws.{filling_none}
 use Rattle.dense.proofs.BatchLaws.{asking_hit, asking_miss, asking_all}
 use Rattle.dense.proofs.batch.Goals as goal

@@ -1,4 +1,4 @@
-use Rattle.std.proofs.Common.{refl, arith, rules}
+use Rattle.std.proofs.Common.{refl, arith}
 use Rattle.mini.proofs.LowestLaws.{zeros_lt}
 use Rattle.dense.proofs.PageLaws.{list_first, list_next, list_more, list_short, list_end}
 use Rattle.dense.proofs.page.Goals as goal

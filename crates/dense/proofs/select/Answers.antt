@@ -1,5 +1,5 @@
 -- `select` meets its contract: the last mini-block whose running count is at or below k has the place, if there is one.
-use Rattle.std.proofs.Common.{◌+◌, ◌*◌, ap, ◌∙◌, arith, rules}
+use Rattle.std.proofs.Common.{◌+◌, ◌*◌, ap, ◌∙◌, arith}
 use lib.Count.{ones-le}
 use Rattle.spec.specs.Reading.{bits}
 use Rattle.spec.proofs.Rising.{rising_between}

@@ -1,8 +1,6 @@
 -- `directory::broken` meets its contract. Assumes nothing.
-use Prim.Native.Nat.{◌+◌, ◌*◌, ◌^◌, ◌<◌}
+use Prim.Native.Nat.{◌+◌, ◌*◌}
 use native.Mathlib.Omega.{arith}
-use borrow.Author.Rules.{rules}
-use lib.ListN.{get_or}
 use Rattle.directory.proofs.PartLaws.{is_broken, total_broken, last_test}
 use Rattle.directory.proofs.broken.Goals as goal
 

@@ -1,7 +1,5 @@
-use Prim.Native.Nat.{◌+◌, ◌*◌, ◌/◌, ◌≤◌}
+use Prim.Native.Nat.{◌/◌}
 use native.Mathlib.Omega.{arith}
-use lib.Dec.{leb}
-use lib.ListN.{get_or}
 use Rattle.words.proofs.TestLaws.{times_bit}
 use Rattle.directory.proofs.FindLaws.{halving_all, halving_more, halved}
 use Rattle.directory.proofs.find_block.Goals as goal

@@ -1,6 +1,5 @@
 -- `gateway::optional_index_contains` meets its contract: the number of the one-shot answer. Assumes nothing.
 use mathlib.Core.Path.{ap, ◌∙◌}
-use borrow.Author.Rules.{rules}
 use Rattle.spec.specs.Answers.{code}
 use Rattle.gateway.proofs.optional_index_contains.Goals as goal
 

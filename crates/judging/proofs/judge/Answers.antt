@@ -1,6 +1,5 @@
 -- `judging::judge` meets its contract. Assumes nothing.
 use mathlib.Core.Path.{sym, ◌∙◌}
-use borrow.Author.Rules.{rules}
 use Rattle.judging.proofs.JudgeLaws.{head_refused}
 use Rattle.judging.proofs.judge.Goals as goal
 

@@ -1,9 +1,7 @@
 -- `one_shot::contains_once` meets its contract: the verdict's refusal, or what the set says. Assumes nothing.
 use mathlib.Core.Path.{sym, ap, ◌∙◌}
 use Rattle.spec.specs.Set.{bit}
-use borrow.Author.Rules.{rules}
 use Rattle.spec.specs.Answers.{value, opened, say_contains}
-use Rattle.one_shot.specs.Accepted.{Accepted}
 use Rattle.one_shot.proofs.OnceLaws.{owes_refusal, owes_set}
 use Rattle.one_shot.proofs.contains_once.Goals as goal
 

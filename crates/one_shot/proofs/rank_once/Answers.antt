@@ -1,8 +1,6 @@
 -- `one_shot::rank_once` meets its contract: the verdict's refusal, or what the set says. Assumes nothing.
 use mathlib.Core.Path.{sym, ap, ◌∙◌}
-use borrow.Author.Rules.{rules}
 use Rattle.spec.specs.Answers.{value, opened, say_rank}
-use Rattle.one_shot.specs.Accepted.{Accepted}
 use Rattle.one_shot.proofs.OnceLaws.{owes_refusal, owes_set}
 use Rattle.one_shot.proofs.rank_once.Goals as goal
 

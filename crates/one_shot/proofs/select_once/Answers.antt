@@ -1,8 +1,6 @@
 -- `one_shot::select_once` meets its contract: the verdict's refusal, or what the set says. Assumes nothing.
 use mathlib.Core.Path.{sym, ap, ◌∙◌}
-use borrow.Author.Rules.{rules}
 use Rattle.spec.specs.Answers.{opened}
-use Rattle.one_shot.specs.Accepted.{Accepted}
 use Rattle.one_shot.proofs.OnceLaws.{owes_refusal, select_out, select_in}
 use Rattle.one_shot.proofs.select_once.Goals as goal
 

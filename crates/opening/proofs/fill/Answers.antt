@@ -1,12 +1,7 @@
-use Prim.Native.Nat.{◌+◌, ◌≤◌}
-use mathlib.Core.Path.{◌≡◌, ap, ◌∙◌}
+use mathlib.Core.Path.{ap, ◌∙◌}
 use native.Mathlib.Omega.{arith}
-use borrow.Author.Rules.{rules}
 use lib.ListN.{length}
 use lib.Seq.{length-sets}
-use Rattle.spec.specs.Reading.{entry_count}
-use Rattle.judging.proofs.EntryLaws.{Right}
-use Rattle.judging.proofs.JudgeLaws.{entry_count_back}
 use Rattle.opening.proofs.FillLaws.{fill_end, fill_right, fill_small, fill_more}
 use Rattle.opening.proofs.OpenLaws.{filled, counted, fill_start}
 use Rattle.opening.proofs.fill.Goals as goal

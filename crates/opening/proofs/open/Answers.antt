@@ -1,10 +1,7 @@
 -- `opening::open` meets its contract: nothing is written before every check has passed. Assumes nothing.
-use mathlib.Core.Path.{◌≡◌, sym, ap, ◌∙◌}
+use mathlib.Core.Path.{sym, ap, ◌∙◌}
 use native.Mathlib.Omega.{arith}
-use borrow.Author.Rules.{rules}
-use Rattle.spec.specs.Answers.{value, opened}
-use Rattle.spec.specs.Reading.{verdict}
-use Rattle.judging.specs.Phases.{judged}
+use Rattle.spec.specs.Answers.{opened}
 use Rattle.opening.proofs.OpenLaws.{accepted, owes_refusal, owes_room, owes_index}
 use Rattle.opening.proofs.open.Goals as goal
 

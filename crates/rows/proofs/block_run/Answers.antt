@@ -1,6 +1,5 @@
 -- `rows::block_run` meets its contract: the rows below the block's end are its run. Assumes nothing.
 use native.Mathlib.Omega.{arith}
-use borrow.Author.Rules.{rules}
 use Rattle.rows.proofs.RowLaws.{never_falls}
 use Rattle.rows.proofs.RunLaws.{run_found}
 use Rattle.rows.proofs.block_run.Goals as goal

@@ -1,6 +1,5 @@
 -- `rows::fault` meets its contract: rows that rise, the last below the row count, have no fault. Assumes nothing.
 use mathlib.Core.Path.{sym, ap, ◌∙◌}
-use borrow.Author.Rules.{rules}
 use native.Mathlib.Omega.{arith}
 use Rattle.spec.specs.Answers.{value, unless}
 use Rattle.rows.proofs.RowLaws.{last_below, no_rows}

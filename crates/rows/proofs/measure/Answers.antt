@@ -1,6 +1,5 @@
 use Prim.Native.Nat.{◌-◌}
 use native.Mathlib.Omega.{arith}
-use borrow.Author.Rules.{rules}
 use Rattle.rows.proofs.MeasureLaws.{measuring_start, measuring_more, measuring_end, size_twice}
 use Rattle.rows.proofs.measure.Goals as goal
 

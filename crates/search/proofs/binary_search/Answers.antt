@@ -1,6 +1,5 @@
-use Prim.Native.Nat.{◌*◌, ◌/◌, ◌≤◌}
+use Prim.Native.Nat.{◌/◌}
 use native.Mathlib.Omega.{arith}
-use lib.Dec.{leb}
 use Rattle.words.proofs.TestLaws.{times_bit}
 use Rattle.search.proofs.SearchLaws.{finds_end}
 use Rattle.search.proofs.TurnLaws.{halving_all, halving_more, halved_below, halved_at}

@@ -1,7 +1,6 @@
 -- `search::from_cursor` meets its contract. Assumes nothing.
 use native.Mathlib.Omega.{arith}
 use mathlib.Core.Path.{refl}
-use borrow.Author.Rules.{rules}
 use Rattle.search.specs.Search.{places_said}
 use Rattle.search.proofs.PlaceLaws.{length_places}
 use Rattle.search.proofs.SearchLaws.{passed, finds_at, finds_end, finds_all}

@@ -1,4 +1,3 @@
-use native.Mathlib.Omega.{arith}
 use Rattle.search.proofs.TurnLaws.{probing_none, probing_more, probed, probed_all}
 use Rattle.search.proofs.probe.Goals as goal
 

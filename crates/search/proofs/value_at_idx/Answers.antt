@@ -1,6 +1,5 @@
 -- `search::value_at_idx` meets its contract. Assumes nothing.
 use mathlib.Core.Path.{sym, ◌∙◌}
-use native.Mathlib.Omega.{arith}
 use Rattle.search.proofs.PlaceLaws.{place_at}
 use Rattle.search.proofs.value_at_idx.Goals as goal
 

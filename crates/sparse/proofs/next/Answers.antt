@@ -1,5 +1,4 @@
 -- `sparse::next` meets its contract. Assumes nothing.
-use native.Mathlib.Omega.{arith}
 use borrow.Author.Rules.{rules}
 use Rattle.sparse.proofs.QuestionLaws.{next_there, next_none}
 use Rattle.sparse.proofs.next.Goals as goal

@@ -1,4 +1,3 @@
-use native.Mathlib.Omega.{arith}
 use Rattle.sparse.proofs.ContentLaws.{writing_none, writing_more, writing_all}
 use Rattle.sparse.proofs.write.Goals as goal
 

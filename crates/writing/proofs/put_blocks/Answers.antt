@@ -1,5 +1,4 @@
 use native.Mathlib.Omega.{arith}
-use borrow.Author.Rules.{rules}
 use Rattle.spec.specs.Reading.{part}
 use Rattle.writing.proofs.PutLaws.{putting_none, putting_more, putting_all, room, room_data}
 use Rattle.writing.proofs.put_blocks.Goals as goal

@@ -1,7 +1,6 @@
 -- `writing::put_file` meets its contract: row count, data and entries, number of entries, one behind another. Assumes nothing.
 use mathlib.Core.Path.{ap}
 use native.Mathlib.Omega.{arith}
-use borrow.Author.Rules.{rules}
 use lib.ListN.{length}
 use lib.Seq.{length-sets}
 use Rattle.writing.proofs.FileLaws.{all_ascend, few_blocks, short, no_room, written_whole, file_length, data_room, file_stored}

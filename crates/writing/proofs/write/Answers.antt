@@ -1,7 +1,6 @@
 -- `writing::write` meets its contract: 1, then the first faulty row, then 4 or the file. Assumes nothing.
 use mathlib.Core.Path.{sym, ap, ◌∙◌}
 use native.Mathlib.Omega.{arith}
-use borrow.Author.Rules.{rules}
 use Rattle.spec.specs.Answers.{done}
 use Rattle.writing.proofs.FileLaws.{too_many, faulty, permitted}
 use Rattle.writing.proofs.write.Goals as goal

@@ -1,6 +1,6 @@
 -- `parts::member` meets its contract. Assumes nothing.
-use Rattle.std.proofs.Common.{arith, rules}
-use Rattle.spec.proofs.Asking.{Unbroken, unbroken}
+use Rattle.std.proofs.Common.{arith}
+use Rattle.spec.proofs.Asking.{unbroken}
 use Rattle.asking.proofs.MemberLaws.{is_member}
 use Rattle.asking.proofs.parts.member.Goals as goal
 

@@ -1,5 +1,5 @@
 -- `lookups::look` meets its contract. Assumes nothing.
-use Rattle.std.proofs.Common.{arith, rules}
+use Rattle.std.proofs.Common.{arith}
 use Rattle.spec.proofs.Asking.{unbroken}
 use Rattle.batches.proofs.LookupLaws.{look_past, look_at, look_nothing}
 use Rattle.batches.proofs.lookups.look.Goals as goal

@@ -1,6 +1,6 @@
 use Rattle.std.proofs.Common.{add-zero, arith}
 use Rattle.spec.specs.Reading.{part}
-use Rattle.batches.proofs.HitLaws.{length_tail, seeking_none, seeking_all, seeking_past, seeking_run, Ran, ran}
+use Rattle.batches.proofs.HitLaws.{length_tail, seeking_none, seeking_all, seeking_past, seeking_run, ran}
 use Rattle.batches.proofs.lookups.sorted.Goals as goal
 
 pub loop-i-init : goal.loop-i-init
@@ -53,7 +53,7 @@ loop-i-preserved c =
     let p = c.requires.room in
     let r = ran _ _ _ c.loop-i-test.true c.requires.never_falls c.run_end-to.ensures in
     seeking_run c.loop-i.invariant _ _ _ _ (omega (arith, r.some)) r.within p.0 p.1 c.in_block-n.ensures
-    c.rows-1.given.0 c.ranks-1.given.0
+    c.in_block-n.auto.rows c.in_block-n.auto.ranks
 
 pub shape_of-rows : goal.shape_of-rows
 shape_of-rows c = c.loop-i.invariant.loose.rows_long

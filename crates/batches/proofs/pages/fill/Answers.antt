@@ -1,4 +1,4 @@
-use Rattle.std.proofs.Common.{◌+◌, ap, arith, rules}
+use Rattle.std.proofs.Common.{◌+◌, ap, arith}
 use Rattle.spec.proofs.Asking.{unbroken}
 use Rattle.batches.proofs.PageLaws.{paging_start, paging_more, paging_end, paging_short}
 use Rattle.batches.proofs.pages.fill.Goals as goal

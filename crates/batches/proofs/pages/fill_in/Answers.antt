@@ -1,5 +1,5 @@
 -- `pages::fill_in` meets its contract. Assumes nothing.
-use Rattle.std.proofs.Common.{arith, rules}
+use Rattle.std.proofs.Common.{arith}
 use Rattle.spec.proofs.Asking.{unbroken}
 use Rattle.batches.proofs.PageLaws.{listed_in}
 use Rattle.batches.proofs.pages.fill_in.Goals as goal

@@ -1,5 +1,5 @@
 -- `selects::block_of` meets its contract. Assumes nothing.
-use Rattle.std.proofs.Common.{◌≡◌, ◌+◌, ◌*◌, get_or, ap, arith, rules}
+use Rattle.std.proofs.Common.{◌≡◌, ◌+◌, ◌*◌, get_or, ap, arith}
 use Rattle.batches.proofs.selects.block_of.Goals as goal
 
 pub returns-then-k-directory : goal.returns-then-k-directory

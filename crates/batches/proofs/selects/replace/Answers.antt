@@ -1,4 +1,4 @@
-use Rattle.std.proofs.Common.{arith, rules}
+use Rattle.std.proofs.Common.{arith}
 use Rattle.spec.proofs.Asking.{unbroken}
 use Rattle.batches.proofs.SelectLaws.{replacing_start, rank_below, replacing_more, replacing_end}
 use Rattle.batches.proofs.selects.replace.Goals as goal

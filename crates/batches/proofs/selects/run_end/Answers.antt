@@ -1,4 +1,4 @@
-use Rattle.std.proofs.Common.{arith, rules}
+use Rattle.std.proofs.Common.{arith}
 use Rattle.batches.proofs.SelectLaws.{run_one, run_more}
 use Rattle.batches.proofs.selects.run_end.Goals as goal
 

@@ -1,8 +1,6 @@
-use Prim.Native.Nat.{◌+◌, ◌≤◌}
+use Prim.Native.Nat.{◌+◌}
 use mathlib.Core.Path.{refl, ◌∙◌}
 use native.Mathlib.Omega.{arith}
-use borrow.Author.Rules.{rules}
-use lib.ListN.{length}
 use Rattle.spec.specs.Reading.{part}
 use Rattle.spec.proofs.Bytes.{length_part}
 use Rattle.judging.proofs.ContentLaws.{checking_end, checking_within, checking_wrong, checking_more}
@@ -28,7 +26,7 @@ unfolding part
 content_ok-requires c =
     let h = c.loop-left.«data» in (
       length_part h (h + c.data_size.result) c.args.bytes.now (omega arith)
-      (checking_within c.loop-left.invariant c.entry_at-x.result (omega arith) c.entry_at-x.ensures _ c.data_size.ensures c.requires.within) ∙ omega (arith, c.data_size.ensures),
+          (checking_within c.loop-left.invariant c.entry_at-x.result (omega arith) c.entry_at-x.ensures _ c.data_size.ensures c.requires.within) ∙ omega (arith, c.data_size.ensures),
       omega (arith, c.rows_at-end.ensures),
     )
 

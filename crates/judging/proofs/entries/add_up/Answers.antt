@@ -1,8 +1,5 @@
-use mathlib.Core.Path.{◌≡◌, refl, sym, ◌∙◌}
-use mathlib.Core.Bool.{true}
+use mathlib.Core.Path.{refl, sym, ◌∙◌}
 use native.Mathlib.Omega.{arith}
-use borrow.Author.Rules.{rules}
-use Rattle.judging.specs.Phases.{is_entry}
 use Rattle.judging.proofs.EntryLaws.{small_none, adding_end, adding_wrong, adding_small, adding_more}
 use Rattle.judging.proofs.entries.add_up.Goals as goal
 

@@ -1,6 +1,5 @@
 -- `judging::entries::entry_at` meets its contract. Assumes nothing.
 use mathlib.Core.Path.{sym, ap, ◌∙◌}
-use borrow.Author.Rules.{rules}
 use Rattle.spec.specs.Reading.{entry_in}
 use Rattle.judging.proofs.EntryLaws.{four_bytes}
 use Rattle.judging.proofs.entries.entry_at.Goals as goal

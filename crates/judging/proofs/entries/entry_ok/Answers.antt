@@ -1,5 +1,4 @@
 -- `judging::entries::entry_ok` meets its contract. Assumes nothing.
-use borrow.Author.Rules.{rules}
 use borrow.Author.Tests.{lt-leb, le-leb, le-ltb, lt-ltb}
 use Rattle.judging.proofs.entries.entry_ok.Goals as goal
 

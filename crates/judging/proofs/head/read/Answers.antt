@@ -1,7 +1,6 @@
 -- `judging::head::read` meets its contract: the head that the row count makes. Assumes nothing.
 use mathlib.Core.Path.{sym, ap, ◌∙◌}
 use native.Mathlib.Omega.{arith}
-use borrow.Author.Rules.{rules}
 use borrow.Author.Tests.{lt-ltb, le-ltb}
 use lib.Seq.{length-take-le}
 use Rattle.spec.specs.Reading.{limit}

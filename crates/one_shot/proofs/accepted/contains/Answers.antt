@@ -1,6 +1,5 @@
 -- `one_shot::accepted::contains` meets its contract: the row's block answers. Assumes nothing.
 use mathlib.Core.Path.{sym}
-use borrow.Author.Rules.{rules}
 use Rattle.spec.proofs.Questions.{contains_past}
 use Rattle.one_shot.proofs.AnswerLaws.{opens, rise, entries_fit, block_within, contains_is}
 use Rattle.one_shot.proofs.accepted.contains.Goals as goal

@@ -1,16 +1,10 @@
 -- `one_shot::accepted::lookup` meets its contract: the rows before the row's block, and the rank in the block. Assumes nothing.
-use mathlib.Core.Path.{◌≡◌, sym, ap, ◌∙◌}
+use mathlib.Core.Path.{sym, ap, ◌∙◌}
 use native.Mathlib.Omega.{arith}
-use borrow.Author.Rules.{rules}
-use Prim.Native.Nat.{◌+◌, ◌^◌, ◌<◌}
-use mathlib.Core.List.{List}
-use Rattle.spec.specs.Set.{lookup}
-use Rattle.spec.specs.Layout.{Block, rows_of}
-use Rattle.spec.specs.Reading.{Head}
-use Rattle.spec.proofs.Questions.{lookup_past, lookup_found}
+use Rattle.spec.proofs.Questions.{lookup_past}
 use Rattle.spec.proofs.Splits.{moved}
 use Rattle.words.specs.Part.{placed}
-use Rattle.one_shot.proofs.AnswerLaws.{Opens, opens, rise, entries_fit, block_within, lookup_is, lookup_small}
+use Rattle.one_shot.proofs.AnswerLaws.{opens, rise, entries_fit, block_within, lookup_is, lookup_small}
 use Rattle.one_shot.proofs.accepted.lookup.Goals as goal
 
 pub returns-then-record-row : goal.returns-then-record-row
@@ -28,14 +22,14 @@ pub returns-in-At : goal.returns-in-At
 returns-in-At c =
     λ h gs v.
     let o = opens _ _ (λ i. (c.type_inv.bytes i).fits) c.requires h gs v in
-    sym (ap (λ p. moved c.of_block-spot.result.rows (placed p)) c.in-At.is) 
+    sym (ap (λ p. moved c.of_block-spot.result.rows (placed p)) c.in-At.is)
     ∙ lookup_is o _ _ c.of_block-spot.ensures _ (λ ps x. c.lookup.ensures ps (rw c.part.ensures x))
 
 pub returns-in-Nothing : goal.returns-in-Nothing
 returns-in-Nothing c =
     λ h gs v.
     let o = opens _ _ (λ i. (c.type_inv.bytes i).fits) c.requires h gs v in
-    sym (ap (λ p. moved c.of_block-spot.result.rows (placed p)) c.in-Nothing.is) 
+    sym (ap (λ p. moved c.of_block-spot.result.rows (placed p)) c.in-Nothing.is)
     ∙ lookup_is o _ _ c.of_block-spot.ensures _ (λ ps x. c.lookup.ensures ps (rw c.part.ensures x))
 
 pub overflow_add-result : goal.overflow_add-result

@@ -1,7 +1,6 @@
 -- `one_shot::accepted::next` meets its contract: the row's block answers, or the first member of a later one. Assumes nothing.
 use mathlib.Core.Path.{sym}
 use native.Mathlib.Omega.{arith}
-use borrow.Author.Rules.{rules}
 use Rattle.spec.proofs.Questions.{next_past}
 use Rattle.one_shot.proofs.AnswerLaws.{opens, rise, entries_fit, few_blocks, block_within, next_here, next_none, next_later}
 use Rattle.one_shot.proofs.accepted.next.Goals as goal

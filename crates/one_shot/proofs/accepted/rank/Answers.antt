@@ -1,8 +1,6 @@
 -- `one_shot::accepted::rank` meets its contract: the rows before the row's block, and the block's. Assumes nothing.
 use mathlib.Core.Path.{sym, ◌∙◌}
 use native.Mathlib.Omega.{arith}
-use borrow.Author.Rules.{rules}
-use Prim.Native.Nat.{◌+◌, ◌^◌, ◌<◌}
 use Rattle.spec.proofs.Questions.{rank_all}
 use Rattle.one_shot.proofs.AnswerLaws.{opens, rise, populated', entries_fit, block_within, rank_is, rank_small}
 use Rattle.one_shot.proofs.accepted.rank.Goals as goal

@@ -1,6 +1,5 @@
 -- `one_shot::accepted::select` meets its contract: the block of the rank answers. Assumes nothing.
 use mathlib.Core.Path.{refl}
-use borrow.Author.Rules.{rules}
 use Rattle.one_shot.proofs.AnswerLaws.{opens, entries_fit, rank_within, rank_upto, select_is}
 use Rattle.one_shot.proofs.accepted.select.Goals as goal
 

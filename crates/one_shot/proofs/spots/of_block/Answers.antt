@@ -1,7 +1,4 @@
 use native.Mathlib.Omega.{arith}
-use mathlib.Core.Path.{◌≡◌}
-use borrow.Author.Rules.{rules}
-use Rattle.spec.specs.Reading.{entry_count}
 use Rattle.spec.proofs.Content.{size_le}
 use Rattle.judging.proofs.JudgeLaws.{entry_count_back}
 use Rattle.one_shot.specs.Spots.{spot_from}
@@ -10,13 +7,11 @@ use Rattle.one_shot.proofs.spots.of_block.Goals as goal
 
 pub overflow_sub-entry : goal.overflow_sub-entry
 overflow_sub-entry c =
-    let counted : c.u16_at-left.result ≡ entry_count c.args.bytes.now = entry_count_back c.args.bytes.now _ (omega (arith, c.requires)) c.u16_at-left.ensures in
-    omega (arith, counted, c.requires)
+    omega (arith, entry_count_back _ _ (omega (arith, c.requires)) c.u16_at-left.ensures, c.requires)
 
 pub loop-left-init : goal.loop-left-init
 loop-left-init c =
-    let counted : c.u16_at-left.result ≡ entry_count c.args.bytes.now = entry_count_back c.args.bytes.now _ (omega (arith, c.requires)) c.u16_at-left.ensures in
-    leading_none (spot_from c.args.number) _ _ _ (omega arith) (omega arith) counted c.requires
+    leading_none (spot_from c.args.number) _ _ _ (omega arith) (omega arith) (entry_count_back _ _ (omega (arith, c.requires)) c.u16_at-left.ensures) c.requires
 
 pub entry_at-x-requires : goal.entry_at-x-requires
 entry_at-x-requires c = omega (arith, c.loop-left.invariant.walk.within)

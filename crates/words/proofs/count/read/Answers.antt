@@ -1,6 +1,4 @@
-use Prim.Native.Nat.{◌<◌}
 use native.Mathlib.Omega.{arith}
-use lib.ListN.{get_or}
 use Rattle.words.proofs.CountLaws.{begun, short, past, weight_le, room, more, last_padded, last_several, last_alone}
 use Rattle.words.proofs.count.read.Goals as goal
 

@@ -1,7 +1,7 @@
-use Prim.Native.Nat.{ℕ, ◌+◌, ◌-◌, ◌^◌, ◌<◌}
+use Prim.Native.Nat.{◌+◌, ◌-◌}
 use mathlib.Core.Path.{◌≡◌}
 use native.Mathlib.Omega.{arith}
-use Rattle.spec.specs.Reading.{AreBytes, number_in}
+use Rattle.spec.specs.Reading.{number_in}
 use Rattle.spec.proofs.Bytes.{part_none}
 use Rattle.words.proofs.LeLaws.{read_turn, read_small}
 use Rattle.words.proofs.le.read.Goals as goal
