@@ -1,11 +1,12 @@
 -- A mini-block and its ten bytes: each gives the other back. Ten bytes, copied, and as a part of a block.
 use Prim.Native.Nat.{ℕ, zero, suc, ◌+◌, ◌-◌, ◌*◌, ◌/◌, ◌^◌, ◌≤◌, ◌<◌}
 use mathlib.Core.Path.{◌≡◌, refl, sym, ap, ap₂, ◌∙◌}
-use mathlib.Core.List.{List, [], ◌∷◌, ◌++◌, append-nil}
+use mathlib.Core.List.{List, [], ◌++◌, append-nil}
 use native.Mathlib.Nat.{mul-zero, mul-suc}
 use native.Mathlib.Omega.{arith}
-use lib.ListN.{length, get_or, take, drop, drop_of_length-le, length-append}
-use lib.Seq.{sets, sets-eq, drop-drop, take-take, take-nil}
+use lib.ListN.{length, get_or, take, drop, length-append}
+use lib.Seq.{drop-drop, take-take}
+use Rattle.std.proofs.lemmas.List.{drop-take}
 use Rattle.std.specs.Simd.{first_chunks}
 use Rattle.spec.specs.Layout.{bytes_of}
 use Rattle.spec.specs.Reading.{AreBytes, number_in, part}
@@ -36,11 +37,6 @@ bytes_mini bs y n =
 
 -- ---- ten bytes, copied
 
--- a list that is stored whole over one as long
-pub sets_whole : (d x : List ℕ) → length x ≡ length d → sets d 0 x ≡ x
-sets_whole d x e =
-    sets-eq x d 0 (omega arith) ∙ ap (λ l. x ++ l) (drop_of_length-le d {i = 0 + length x} (omega arith)) ∙ append-nil x
-
 -- the ten bytes of a mini-block, as the part that is copied
 pub part_mini : (x : DenseMiniBlock) (ten : List ℕ) → ten ≡ mini_bytes x → part 0 10 ten ≡ mini_bytes x
 part_mini x ten e =
@@ -51,10 +47,9 @@ part_mini x ten e =
 
 -- what is taken of a longer front
 take_within : (n a t : ℕ) (l : List ℕ) → a + n ≤ t → take n (drop a (take t l)) ≡ take n (drop a l)
-take_within n zero t l h = take-take n t l (omega arith)
-take_within n (suc a) t [] h = rw (take-nil t)
-take_within n (suc a) zero (x ∷ l) h = absurd (omega arith)
-take_within n (suc a) (suc t) (x ∷ l) h = take_within n a t l (omega arith)
+take_within n a t l h =
+    let e : t ≡ a + (t - a) = omega arith in
+    ap (λ t. take n (drop a (take t l))) e ∙ ap (take n) (drop-take a (t - a) l) ∙ take-take n (t - a) (drop a l) (omega arith)
 
 -- of a part that is long enough
 part_part : (a b c d : ℕ) (bs : List ℕ) → a ≤ b → c + b ≤ d → part a b (part c d bs) ≡ part (c + a) (c + b) bs
