@@ -6,8 +6,8 @@ use mathlib.Core.List.{List, [], ◌∷◌}
 use native.Mathlib.Nat.{zero-add, div-eq_of_lt, lt_of_lt_of_le, pow-suc}
 use native.Mathlib.Numerals.{add-one}
 use native.Mathlib.Omega.{arith}
-use lib.ListN.{length, get_or, take, drop, length-map, length-take, get_or-map}
-use lib.Seq.{drop-cons, drop-nil, get_or-take, get_or-drop}
+use lib.ListN.{length, get_or, take, drop, length-map, length-take, length-drop, get_or-map}
+use lib.Seq.{length-take-le, drop-cons, drop-nil, get_or-take, get_or-drop}
 use lib.Dec.{ltb, eqb}
 use lib.Pow.{pow_pos, pow_mono}
 use borrow.Author.Tests.{ltb-true, ltb-false}
@@ -63,13 +63,17 @@ word_past m low end (suc i) (p ∷ ps) r h =
 pub rank_within : (d : ℕ) (rows : List ℕ) → rank d (places rows) ≤ length rows
 rank_within d rows = omega (arith, rank_le d (places rows), length-map rows (λ r. r % size))
 
--- row i of those from an index on
-pub row_from : (from i : ℕ) (rows : List ℕ) → i < length (take (length rows - from) (drop from rows))
-    → (from + i < length rows) × (get_or (take (length rows - from) (drop from rows)) i 0 % size ≡ select (from + i) (places rows))
-row_from from i rows h =
+-- those from an index on
+pub rest_length : (from : ℕ) (rows : List ℕ) → from ≤ length rows → from + length (take (length rows - from) (drop from rows)) ≡ length rows
+rest_length from rows h = omega (arith, length-take-le (length rows - from) (drop from rows) (omega (arith, length-drop from rows)))
+
+-- the place of row i of them
+pub rest_place : (from i : ℕ) (rows : List ℕ) → i < length (take (length rows - from) (drop from rows))
+    → (from + i < length (places rows)) × (get_or (take (length rows - from) (drop from rows)) i 0 % size ≡ select (from + i) (places rows))
+rest_place from i rows h =
     let n : i < length rows - from = omega (arith, length-take (length rows - from) (drop from rows)) in
     let e = get_or-take (length rows - from) (drop from rows) i 0 n ∙ get_or-drop from rows i 0 in
-    (omega arith, ap (λ r. r % size) e ∙ sym (get_or-map (λ r. r % size) rows (from + i) 0))
+    (omega (arith, length-map rows (λ r. r % size)), ap (λ r. r % size) e ∙ sym (get_or-map (λ r. r % size) rows (from + i) 0))
 
 -- ---- gathering: w has the places of mini-block m before index i, and so no bit at or above the place at i
 

@@ -62,12 +62,17 @@ part_part a b c d bs h l =
 chunk_at : (n k i : ℕ) (bs : List ℕ) → i < k → get_or (first_chunks n k bs) i [] ≡ take n (drop (n * i) bs)
 chunk_at n zero i bs h = absurd (omega arith)
 chunk_at n (suc k) zero bs h = rw mul-zero refl
-chunk_at n (suc k) (suc i) bs h = let e : n * suc i ≡ n + n * i = omega (arith, mul-suc n i) in rw e (chunk_at n k i (drop n bs) (omega arith) ∙ ap (take n) (drop-drop (n * i) n bs))
+chunk_at n (suc k) (suc i) bs h =
+    let e : n * suc i ≡ n + n * i = omega (arith, mul-suc n i) in
+    rw e (chunk_at n k i (drop n bs) (omega arith) ∙ ap (take n) (drop-drop (n * i) n bs))
 
 -- of chunks of ten bytes
-pub mini_chunk : (bs : List ℕ) (m : ℕ) → length bs ≡ 10240 → m < 1024 → get_or (first_chunks 10 (length bs / 10) bs) m [] ≡ part (10 * m) (10 * m + 10) bs
+pub mini_chunk : (bs : List ℕ) (m : ℕ) → length bs ≡ 10240 → m < 1024
+    → get_or (first_chunks 10 (length bs / 10) bs) m [] ≡ part (10 * m) (10 * m + 10) bs
 unfolding part
-mini_chunk bs m e h = let n : 10 * m + 10 - 10 * m ≡ 10 = omega arith in rw n (chunk_at 10 (length bs / 10) m bs (omega arith))
+mini_chunk bs m e h =
+    let n : 10 * m + 10 - 10 * m ≡ 10 = omega arith in
+    rw n (chunk_at 10 (length bs / 10) m bs (omega arith))
 
 -- the ten bytes of mini-block m
 pub mini_at : (bs : List ℕ) (m : ℕ) (x : DenseMiniBlock) → x ≡ mini_in (part (10 * m) (10 * m + 10) bs) → MiniAt bs m x

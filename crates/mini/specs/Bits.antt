@@ -1,8 +1,8 @@
 -- What a question of a word's 64 places answers.
 use Rattle.std.specs.Prelude.{ℕ, Option, Some, None}
-use Rattle.std.proofs.Math.Option as sets
+use Rattle.std.proofs.Math.Option as maybe
 
 -- the place that is said, or none
-abbrev pub place_in : Option ℕ → sets.Option ℕ
-place_in (Some p) = sets.some p
-place_in None = sets.none
+abbrev pub place_in : Option ℕ → maybe.Option ℕ
+place_in (Some p) = maybe.some p
+place_in None = maybe.none

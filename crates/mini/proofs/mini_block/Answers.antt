@@ -9,4 +9,5 @@ use Rattle.mini.proofs.mini_block.Goals as goal
 pub returns : goal.returns
 returns c =
     let a = c.args in
-    mini_at a.part.now a.m c.from_bytes.result (c.from_bytes.ensures ∙ ap mini_in (ap (λ l. get_or l a.m []) c.as_chunks.ensures.front ∙ mini_chunk a.part.now a.m c.requires.0 c.requires.1))
+    let ten = ap (λ l. get_or l a.m []) c.as_chunks.ensures.front ∙ mini_chunk a.part.now a.m c.requires.0 c.requires.1 in
+    mini_at a.part.now a.m c.from_bytes.result (c.from_bytes.ensures ∙ ap mini_in ten)
