@@ -2,23 +2,16 @@
 // end; of places that rise, where the target is or would go.
 #![tactic(auto)]
 
-ghost use Rattle.std.specs.Prelude.{◌≡◌, cond, ◌+◌, ◌/◌, ◌^◌, ◌≤◌, ◌<◌, min, leb, eqb, length, get_or};
+ghost use Rattle.std.specs.Prelude.{◌≡◌, cond, ◌+◌, ◌/◌, ◌^◌, ◌≤◌, ◌<◌, min, leb, eqb, length, get_or, Ok, Err};
 ghost use Rattle.spec.specs.Set.{bit};
 ghost use Rattle.search.specs.Search.{places_said, index_of, shifted, Finds, Probed};
 
-// Where a place is found, or where it would go.
-#[derive(Clone, Copy)]
-pub enum Search {
-    Found(usize),
-    Insert(usize),
-}
-
 // Every place, by halves: places before base are below the target, those from base + size on are above it.
-pub fn binary_search(part: &[u8], target: u16) -> Search
+pub fn binary_search(part: &[u8], target: u16) -> Result<usize, usize>
     ensures { Finds part.now target 0 result }
 {
     if part.len() < 2 {
-        return Search::Insert(0);
+        return Err(0);
     }
     let mut base = 0;
     let mut size = part.len() / 2;
@@ -30,20 +23,20 @@ pub fn binary_search(part: &[u8], target: u16) -> Search
     }
     let p = value_at_idx(part, base);
     if p < target {
-        return Search::Insert(base + 1);
+        return Err(base + 1);
     }
     answer_at(base, p, target)
 }
 
 // The search from a cursor on, where every place before it is below the target: the place at the cursor, then the next one, and
 // where that is below the target too, the narrowed search.
-pub fn from_cursor(part: &[u8], cursor: usize, target: u16) -> Search
+pub fn from_cursor(part: &[u8], cursor: usize, target: u16) -> Result<usize, usize>
     requires { cursor ≤ length part.now / 2 }
     ensures { Finds part.now target cursor result }
 {
     let n = part.len() / 2;
     if cursor == n {
-        return Search::Insert(n);
+        return Err(n);
     }
     let p = value_at_idx(part, cursor);
     if target <= p {
@@ -51,7 +44,7 @@ pub fn from_cursor(part: &[u8], cursor: usize, target: u16) -> Search
     }
     let next = cursor + 1;
     if next == n {
-        return Search::Insert(n);
+        return Err(n);
     }
     let q = value_at_idx(part, next);
     if target <= q {
@@ -61,12 +54,12 @@ pub fn from_cursor(part: &[u8], cursor: usize, target: u16) -> Search
 }
 
 // The index that a search gives, found or not.
-pub fn index(r: Search) -> usize
+pub fn index(r: Result<usize, usize>) -> usize
     ensures { result ≡ index_of r }
 {
     match r {
-        Search::Found(i) => i,
-        Search::Insert(i) => i,
+        Ok(i) => i,
+        Err(i) => i,
     }
 }
 
@@ -80,7 +73,7 @@ pub fn value_at_idx(part: &[u8], i: usize) -> u16
 
 // The search after the cursor, whose place is below the target by gap. Places are distinct and rise, so the one gap places on is at
 // least gap more, and the search is handed no more than these.
-fn narrowed_search(part: &[u8], cursor: usize, gap: usize, target: u16) -> Search
+fn narrowed_search(part: &[u8], cursor: usize, gap: usize, target: u16) -> Result<usize, usize>
     requires { (cursor < length part.now / 2) × (0 < gap) × (get_or (places_said part.now) cursor 0 + gap ≡ target) }
     ensures { Finds part.now target 0 result }
 {
@@ -92,7 +85,7 @@ fn narrowed_search(part: &[u8], cursor: usize, gap: usize, target: u16) -> Searc
 }
 
 // Every place, quickest for a target near the start: the part that the probes leave, by halves.
-fn exponential_search(part: &[u8], target: u16) -> Search
+fn exponential_search(part: &[u8], target: u16) -> Result<usize, usize>
     ensures { Finds part.now target 0 result }
 {
     let left = probe(part, target);
@@ -120,24 +113,24 @@ fn probe(part: &[u8], target: u16) -> usize
 }
 
 // An answer of the search of a part, counted from the start of the whole.
-fn shift(n: usize, r: Search) -> Search
+fn shift(n: usize, r: Result<usize, usize>) -> Result<usize, usize>
     requires { n + index_of r < 2 ^ 64 }
     ensures { result ≡ shifted n r }
 {
     match r {
-        Search::Found(i) => Search::Found(n + i),
-        Search::Insert(i) => Search::Insert(n + i),
+        Ok(i) => Ok(n + i),
+        Err(i) => Err(n + i),
     }
 }
 
 // The answer at an index whose place is not below the target, where every place before it is.
-fn answer_at(i: usize, p: u16, target: u16) -> Search
-    ensures { result ≡ cond (eqb p target) (Search.Found i) (Search.Insert i) }
+fn answer_at(i: usize, p: u16, target: u16) -> Result<usize, usize>
+    ensures { result ≡ cond (eqb p target) (Ok i) (Err i) }
 {
     if p == target {
-        return Search::Found(i);
+        return Ok(i);
     }
-    Search::Insert(i)
+    Err(i)
 }
 
 // 1 where a place is not above the target, and 0 where it is: by a difference and no test, since nothing foretells which way a test
