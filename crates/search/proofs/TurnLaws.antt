@@ -76,23 +76,23 @@ probing_none bs t = record { inside = omega arith; near = λ rises. near_all (pl
 
 module _ {bs : List ℕ} {t left : ℕ} (s : Probing bs t left) where
   -- the probe is below the target
-  pub probing_more : (p : ℕ) → left * 2 < length bs / 2 → p ≡ get_or (places_said bs) (left * 2) 0 → p < t → Probing bs t (left * 2 + 1)
+  pub probing_more : (p : ℕ) → 2 * left < length bs / 2 → p ≡ get_or (places_said bs) (2 * left) 0 → p < t → Probing bs t (2 * left + 1)
   probing_more p l e h = record {
     inside = omega arith;
     near = λ rises.
-        near_from (places_said bs) rises (s.near rises) (left * 2) (omega (arith, length_places bs)) (left * 2 + 1) (length bs / 2) (omega arith) (omega arith)
+        near_from (places_said bs) rises (s.near rises) (2 * left) (omega (arith, length_places bs)) (2 * left + 1) (length bs / 2) (omega arith) (omega arith)
         (omega arith);
   }
 
   -- it is not
-  pub probed : (p : ℕ) → left * 2 < length bs / 2 → p ≡ get_or (places_said bs) (left * 2) 0 → t ≤ p → Probed bs t left
+  pub probed : (p : ℕ) → 2 * left < length bs / 2 → p ≡ get_or (places_said bs) (2 * left) 0 → t ≤ p → Probed bs t left
   probed p l e h = record {
     inside = s.inside;
-    exact = λ rises. near_to (places_said bs) rises (s.near rises) (left * 2) (omega (arith, length_places bs)) (2 * left + 1) (omega arith) (omega arith);
+    exact = λ rises. near_to (places_said bs) rises (s.near rises) (2 * left) (omega (arith, length_places bs)) (2 * left + 1) (omega arith) (omega arith);
   }
 
   -- there is none left
-  pub probed_all : length bs / 2 ≤ left * 2 → Probed bs t left
+  pub probed_all : length bs / 2 ≤ 2 * left → Probed bs t left
   probed_all l = record {
     inside = s.inside;
     exact = λ rises. record { before = (s.near rises).before; after = λ k j j'. absurd (omega (arith, length_places bs)) };
