@@ -1,12 +1,8 @@
 -- `search::exponential_search` meets its contract. Assumes nothing.
 use Prim.Native.Nat.{◌+◌, ◌*◌}
 use native.Mathlib.Omega.{arith}
-use Rattle.search.proofs.PlaceLaws.{length_cut}
 use Rattle.search.proofs.SearchLaws.{part_finds}
 use Rattle.search.proofs.exponential_search.Goals as goal
-
-pub shift-requires : goal.shift-requires
-shift-requires c = omega (arith, length_cut c.args.part.now c.probe-left.result c.min-right.result (omega arith) (omega arith))
 
 pub returns : goal.returns
 returns c =

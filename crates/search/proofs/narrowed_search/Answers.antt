@@ -2,12 +2,9 @@
 use Prim.Native.Nat.{◌+◌}
 use native.Mathlib.Omega.{arith}
 use Rattle.search.specs.Search.{places_said}
-use Rattle.search.proofs.PlaceLaws.{length_places, length_cut}
+use Rattle.search.proofs.PlaceLaws.{length_places}
 use Rattle.search.proofs.SearchLaws.{near_gap, part_finds}
 use Rattle.search.proofs.narrowed_search.Goals as goal
-
-pub shift-requires : goal.shift-requires
-shift-requires c = omega (arith, length_cut c.args.part.now (c.args.cursor + 1) c.min-right.result (omega arith) (omega arith))
 
 pub returns : goal.returns
 returns c =
