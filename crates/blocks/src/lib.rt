@@ -7,8 +7,6 @@ ghost use Rattle.spec.specs.Set.{contains, rank, lookup, select, next};
 ghost use Rattle.spec.specs.Layout.{size};
 ghost use Rattle.words.specs.Part.{Of, placed, Inside, NeverFalls, InBlock, Batched, Paged};
 
-use words::Place;
-
 // 1,024 mini-blocks of ten bytes.
 const DENSE: usize = 10240;
 
@@ -33,7 +31,7 @@ pub fn rank(part: &[u8], place: u16) -> u32
 }
 
 // The rank of a place, if it is in the block.
-pub fn lookup(part: &[u8], place: u16) -> Place
+pub fn lookup(part: &[u8], place: u16) -> Option<u32>
     ensures { Of part.now (λ ps. placed result ≡ lookup place ps) }
 {
     if part.len() == DENSE {
@@ -54,7 +52,7 @@ pub fn select(part: &[u8], k: u32) -> u32
 }
 
 // The first place of the block at or after a place.
-pub fn next(part: &[u8], place: u16) -> Place
+pub fn next(part: &[u8], place: u16) -> Option<u32>
     ensures inside { Inside result }
     ensures exact { Of part.now (λ ps. placed result ≡ next place ps) }
 {

@@ -2,8 +2,8 @@
 use Rattle.std.proofs.Common.{◌≡◌, ℕ, ◌+◌, ◌-◌, ◌%◌, ◌^◌, ◌<◌, ◌≤◌, List, [], length, get_or, set, sym, ap, ◌∙◌, arith}
 use Rattle.spec.specs.Set.{lookup}
 use Rattle.spec.proofs.Questions.{lookup_found, lookup_none}
-use Rattle.words.specs.declared.Place.{Place}
-use Rattle.words.specs.declared.Place.TheVariants.{At, Nothing}
+use Rattle.std.specs.Prelude.{Some, None}
+use Rattle.std.specs.Prelude.{Option as Maybe}
 use Rattle.words.specs.Part.{Holds, Of, placed, InBlock, Batched}
 use Rattle.words.proofs.RowLaws.{rows_from, row_contains, row_rank}
 use Rattle.words.proofs.FillLaws.{counted, Filling, filling_hit, filling_miss, filling_all}
@@ -13,8 +13,8 @@ pub record Asking (bs qs : List ℕ) (base first : ℕ) (rows₀ ranks₀ rows r
   pub filled : (ps : List ℕ) → Filling (Holds bs ps) (rows_from base ps) qs (counted (rows_from base ps) first) rows₀ ranks₀ rows ranks n i
 
 module _ {bs qs rows₀ ranks₀ rows ranks : List ℕ} {base first n i : ℕ} (a : Asking bs qs base first rows₀ ranks₀ rows ranks n i)
-    (block : InBlock base qs) (h : i < length qs) {r : Place} (says : Of bs (λ ps. placed r ≡ lookup (get_or qs i 0 - base) ps)) where
-  pub asking_hit : (at x : ℕ) → r ≡ At at → x ≡ (first + at) % 2 ^ 32
+    (block : InBlock base qs) (h : i < length qs) {r : Maybe ℕ} (says : Of bs (λ ps. placed r ≡ lookup (get_or qs i 0 - base) ps)) where
+  pub asking_hit : (at x : ℕ) → r ≡ Some at → x ≡ (first + at) % 2 ^ 32
       → Asking bs qs base first rows₀ ranks₀ (set rows n (get_or qs i 0)) (set ranks n x) (n + 1) (i + 1)
   asking_hit at x e q = record {
     filled = λ ps. filling_hit (a.filled ps) x h (λ d.
@@ -24,7 +24,7 @@ module _ {bs qs rows₀ ranks₀ rows ranks : List ℕ} {base first n i : ℕ} (
         ));
   }
 
-  pub asking_miss : r ≡ Nothing → Asking bs qs base first rows₀ ranks₀ rows ranks n (i + 1)
+  pub asking_miss : r ≡ None → Asking bs qs base first rows₀ ranks₀ rows ranks n (i + 1)
   asking_miss e = record {
     filled = λ ps. filling_miss (a.filled ps) h
         (λ d. row_contains base (get_or qs i 0) ps (block i h).0 ∙ lookup_none (get_or qs i 0 - base) ps (sym (says ps d) ∙ ap placed e));

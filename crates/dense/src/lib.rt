@@ -10,7 +10,6 @@ ghost use Rattle.words.specs.Part.{Of, placed, Inside, NeverFalls, InBlock, Batc
 ghost use Rattle.dense.specs.Mini.{LastMini};
 
 use mini::bits;
-use words::Place;
 
 // Whether a place is in the block.
 pub fn contains(part: &[u8], place: u16) -> bool
@@ -31,16 +30,16 @@ pub fn rank(part: &[u8], place: u16) -> u32
 }
 
 // The rank of a place, if it is in the block.
-pub fn lookup(part: &[u8], place: u16) -> Place
+pub fn lookup(part: &[u8], place: u16) -> Option<u32>
     requires { length part.now ≡ 10240 }
     ensures { Of part.now (λ ps. placed result ≡ lookup place ps) }
 {
     let m = mini::mini_block(part, place / 64);
     let p = place % 64;
     if bits::get_bit_at(m.bitvec, p) {
-        return Place::At(m.rank as u32 + bits::rank_u64(m.bitvec, p) as u32);
+        return Some(m.rank as u32 + bits::rank_u64(m.bitvec, p) as u32);
     }
-    Place::Nothing
+    None
 }
 
 // The last mini-block whose running count is at or below k: empty ones before it share that count.
@@ -78,7 +77,7 @@ pub fn select(part: &[u8], k: u32) -> u32
 }
 
 // The first place of the block at or after a place.
-pub fn next(part: &[u8], place: u16) -> Place
+pub fn next(part: &[u8], place: u16) -> Option<u32>
     requires { length part.now ≡ 10240 }
     ensures inside { Inside result }
     ensures exact { Of part.now (λ ps. placed result ≡ next place ps) }
@@ -87,12 +86,12 @@ pub fn next(part: &[u8], place: u16) -> Place
     let mut at = bits::next_u64(words::le::read(part, 10 * m as usize, 8), place % 64);
     while at == 64 {
         if m == 1023 {
-            return Place::Nothing;
+            return None;
         }
         m += 1;
         at = bits::next_u64(words::le::read(part, 10 * m as usize, 8), 0);
     }
-    Place::At(64 * m as u32 + at as u32)
+    Some(64 * m as u32 + at as u32)
 }
 
 // Whether the block's contents are right: running counts, as many bits as the entry says, none at or past the end.
@@ -163,12 +162,12 @@ pub fn batch(
         let row = questions[i];
         i += 1;
         match lookup(part, (row - base) as u16) {
-            Place::At(at) => {
+            Some(at) => {
                 rows[n] = row;
                 ranks[n] = std::num::wrapping_add_u32(first, at);
                 n += 1;
             }
-            Place::Nothing => {}
+            None => {}
         }
     }
     n

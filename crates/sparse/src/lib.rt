@@ -9,7 +9,6 @@ ghost use Rattle.spec.specs.Reading.{is_content};
 ghost use Rattle.words.specs.Part.{Of, placed, Inside, NeverFalls, InBlock, Batched, Paged};
 
 use search::Search;
-use words::Place;
 
 // Whether a place is in the block.
 pub fn contains(part: &[u8], place: u16) -> bool
@@ -31,13 +30,13 @@ pub fn rank(part: &[u8], place: u16) -> u32
 }
 
 // The rank of a place, if it is in the block.
-pub fn lookup(part: &[u8], place: u16) -> Place
+pub fn lookup(part: &[u8], place: u16) -> Option<u32>
     requires { length part.now ≡ 10240 → ⊥ }
     ensures { Of part.now (λ ps. placed result ≡ lookup place ps) }
 {
     match search::binary_search(part, place) {
-        Search::Found(i) => Place::At(to_u32(i)),
-        Search::Insert(_) => Place::Nothing,
+        Search::Found(i) => Some(to_u32(i)),
+        Search::Insert(_) => None,
     }
 }
 
@@ -55,16 +54,16 @@ pub fn select(part: &[u8], k: u32) -> u32
 }
 
 // The first place of the block at or after a place.
-pub fn next(part: &[u8], place: u16) -> Place
+pub fn next(part: &[u8], place: u16) -> Option<u32>
     requires { length part.now ≡ 10240 → ⊥ }
     ensures inside { Inside result }
     ensures exact { Of part.now (λ ps. placed result ≡ next place ps) }
 {
     let i = search::index(search::binary_search(part, place));
     if i < part.len() / 2 {
-        return Place::At(search::value_at_idx(part, i) as u32);
+        return Some(search::value_at_idx(part, i) as u32);
     }
-    Place::Nothing
+    None
 }
 
 // Whether the block's contents are right: places increasing, each below the next, and none at or past the end, the last below it.

@@ -11,10 +11,8 @@ use lib.Seq.{take_at}
 use lib.Dec.{leb, ltb}
 use borrow.Author.Tests.{le-ltb}
 use Rattle.spec.specs.declared.Record.{Record}
-use Rattle.spec.specs.declared.Count.{Count}
-use Rattle.spec.specs.declared.Count.TheVariants.{Is}
-use Rattle.spec.specs.declared.Opened.{Opened}
-use Rattle.spec.specs.declared.Opened.TheVariants.{Index}
+use Rattle.spec.specs.declared.Refusal.{Refusal}
+use Rattle.std.specs.Prelude.{Result, Ok}
 use Rattle.spec.specs.Set.{selects, below, page}
 use Rattle.spec.specs.Layout.{Block, blocks, rows_of, file_of}
 use Rattle.spec.specs.Reading.{Permitted, AreBytes, part, Head, holds, verdict, record_of, directory_length, Given}
@@ -86,10 +84,10 @@ module _ (rows file directory : List ℕ) (rec : Record) (h : Head) (gs : List B
       }
 
 -- writing, then opening, each into memory that is large enough
-pub house : (count : ℕ) (rows out out' : List ℕ) (w : Count) → Permitted count rows → length (file_of count rows) ≤ length out → AreBytes out'
+pub house : (count : ℕ) (rows out out' : List ℕ) (w : Result ℕ Refusal) → Permitted count rows → length (file_of count rows) ≤ length out → AreBytes out'
     → WriteOwes count rows out (counted w, out') → let n = length (file_of count rows) in
-    (w ≡ Is n) × ((directory directory' : List ℕ) (r : Opened) → directory_length count ≤ length directory
-    → OpenOwes (take n out') directory (opened r, directory') → (rec : Record) × (r ≡ Index rec) × House rows (take n out') directory' rec)
+    (w ≡ Ok n) × ((directory directory' : List ℕ) (r : Result Record Refusal) → directory_length count ≤ length directory
+    → OpenOwes (take n out') directory (opened r, directory') → (rec : Record) × (r ≡ Ok rec) × House rows (take n out') directory' rec)
 unfolding part
 house count rows out out' w p room y wrote =
     let n = length (file_of count rows) in
@@ -100,12 +98,12 @@ house count rows out out' w p room y wrote =
     let bytes : AreBytes (take n out') = rw zero at (bytes_part 0 n out' y) in
     let a = written_accepted count rows p in
     let rec = record_of (head_of count) (blocks rows) in (
-      counted_one w (Is n) v,
+      counted_one w (Ok n) v,
       λ directory directory' r long opens.
           let o = open_index (take n out') directory (opened r, directory') opens (head_of count) (blocks rows) (ap verdict file ∙ a.0) long in
           let is : opened r ≡ value rec = ap (λ o. o.0) o in
           let g = open_given (take n out') directory directory' rec (sym (ap (λ s. (s, directory')) is) ∙ opens) in
           let same : holds (head_of count) (blocks rows) ≡ holds g.0 g.1 = sym (ap verdict file ∙ a.0) ∙ g.2.accepted in
           let gs : blocks rows ≡ g.1 = cc in
-          (rec, opened_one r (Index rec) is, in_house rows (take n out') directory' rec g.0 g.1 bytes g.2 (ap rows_of (sym gs) ∙ a.1)),
+          (rec, opened_one r (Ok rec) is, in_house rows (take n out') directory' rec g.0 g.1 bytes g.2 (ap rows_of (sym gs) ∙ a.1)),
     )

@@ -4,15 +4,10 @@ use mathlib.Core.Path.{◌≡◌, refl, sym, ap, ◌∙◌}
 use mathlib.Core.List.{List, [], ◌∷◌, map}
 use native.Mathlib.Omega.{arith}
 use lib.ListN.{get_or}
+use Rattle.std.specs.Prelude.{true, false, ltb, Result, Ok, Err, Some, None}
 use Rattle.spec.specs.declared.Record.{Record}
 use Rattle.spec.specs.declared.Refusal.{Refusal}
 use Rattle.spec.specs.declared.Refusal.TheVariants.{Rows, Order, Range, Room, Header, Entries, Length, Content, Rank, Broken}
-use Rattle.spec.specs.declared.Answer.TheVariants as Answer
-use Rattle.spec.specs.declared.Number.TheVariants as Number
-use Rattle.spec.specs.declared.Found.TheVariants as Found
-use Rattle.spec.specs.declared.Count.TheVariants as Count
-use Rattle.spec.specs.declared.Done.TheVariants as Done
-use Rattle.spec.specs.declared.Opened.TheVariants as Opened
 use Rattle.spec.specs.Answers.{Said, value, nothing, refused, number, answered, numbered, found, counted, done, opened, code}
 
 -- ---- numbers and values
@@ -25,29 +20,29 @@ pub numbers : map number refusals ≡ 1 ∷ 2 ∷ 3 ∷ 4 ∷ 5 ∷ 6 ∷ 7 ∷ 
 numbers = refl
 
 -- contains: 1 for yes, 0 for no
-pub answered_says : (answered Answer.Yes ≡ value 1) × (answered Answer.No ≡ value 0)
-    × ((e : Refusal) → answered (Answer.Refused e) ≡ refused (number e))
+pub answered_says : (answered (Ok true) ≡ value 1) × (answered (Ok false) ≡ value 0)
+    × ((e : Refusal) → answered (Err e) ≡ refused (number e))
 answered_says = (refl, refl, λ e. refl)
 
 -- rank, select: the value
-pub numbered_says : ((v : ℕ) → numbered (Number.Is v) ≡ value v) × ((e : Refusal) → numbered (Number.Refused e) ≡ refused (number e))
+pub numbered_says : ((v : ℕ) → numbered (Ok v) ≡ value v) × ((e : Refusal) → numbered (Err e) ≡ refused (number e))
 numbered_says = (λ v. refl, λ e. refl)
 
 -- lookup, next: the value, or "not there", "none"
-pub found_says : ((v : ℕ) → found (Found.At v) ≡ value v) × (found Found.Nothing ≡ nothing)
-    × ((e : Refusal) → found (Found.Refused e) ≡ refused (number e))
+pub found_says : ((v : ℕ) → found (Ok (Some v)) ≡ value v) × (found (Ok None) ≡ nothing)
+    × ((e : Refusal) → found (Err e) ≡ refused (number e))
 found_says = (λ v. refl, refl, λ e. refl)
 
 -- write, batch lookup, page: the count
-pub counted_says : ((v : ℕ) → counted (Count.Is v) ≡ value v) × ((e : Refusal) → counted (Count.Refused e) ≡ refused (number e))
+pub counted_says : ((v : ℕ) → counted (Ok v) ≡ value v) × ((e : Refusal) → counted (Err e) ≡ refused (number e))
 counted_says = (λ v. refl, λ e. refl)
 
 -- batch select: that it is done
-pub done_says : (done Done.Yes ≡ value tt) × ((e : Refusal) → done (Done.Refused e) ≡ refused (number e))
+pub done_says : (done (Ok tt) ≡ value tt) × ((e : Refusal) → done (Err e) ≡ refused (number e))
 done_says = (refl, λ e. refl)
 
 -- opening: the record
-pub opened_says : ((rec : Record) → opened (Opened.Index rec) ≡ value rec) × ((e : Refusal) → opened (Opened.Refused e) ≡ refused (number e))
+pub opened_says : ((rec : Record) → opened (Ok rec) ≡ value rec) × ((e : Refusal) → opened (Err e) ≡ refused (number e))
 opened_says = (λ rec. refl, λ e. refl)
 
 -- a refusal has no value
@@ -103,40 +98,38 @@ number_back Rank = refl
 number_back Broken = refl
 
 -- an answer by its three kinds
-abbrev back : {X A : Type 0} → (X → A) → A → (Refusal → A) → Said X → A
-back is none' not' (value v) = is v
-back is none' not' nothing = none'
-back is none' not' (refused k) = not' (refusal_of k)
+abbrev back : {X A : Type 0} → (X → A) → A → Said X → Result A Refusal
+back is none' (value v) = Ok (is v)
+back is none' nothing = Ok none'
+back is none' (refused k) = Err (refusal_of k)
 
 pub number_one : Injective number
 number_one = by_back number refusal_of number_back
 
 pub answered_one : Injective answered
 answered_one =
-    by_back answered (back (λ v. get_or (Answer.No ∷ []) v Answer.Yes) Answer.No Answer.Refused)
-    (λ a. elim a as (λ k. back (λ v. get_or (Answer.No ∷ []) v Answer.Yes) Answer.No Answer.Refused (answered k) ≡ k) [ Answer.Yes ↦ refl | Answer.No ↦ refl | Answer.Refused e ↦ ap Answer.Refused (number_back e) ])
+    by_back answered (back (ltb 0) false)
+    (λ a. elim a as (λ k. back (ltb 0) false (answered k) ≡ k) [ Ok b ↦ elim b as (λ k. back (ltb 0) false (answered (Ok k)) ≡ Ok k) [ true ↦ refl | false ↦ refl ] | Err e ↦ ap Err (number_back e) ])
+
+-- a value, which says itself
+abbrev same : {A : Type 0} → Said A → Result A Refusal
+same (value v) = Ok v
+same nothing = Err Rows
+same (refused k) = Err (refusal_of k)
 
 pub numbered_one : Injective numbered
-numbered_one =
-    by_back numbered (back Number.Is (Number.Refused Rows) Number.Refused)
-    (λ a. elim a as (λ k. back Number.Is (Number.Refused Rows) Number.Refused (numbered k) ≡ k) [ Number.Is v ↦ refl | Number.Refused e ↦ ap Number.Refused (number_back e) ])
+numbered_one = by_back numbered same (λ a. elim a as (λ k. same (numbered k) ≡ k) [ Ok v ↦ refl | Err e ↦ ap Err (number_back e) ])
 
 pub found_one : Injective found
 found_one =
-    by_back found (back Found.At Found.Nothing Found.Refused)
-    (λ a. elim a as (λ k. back Found.At Found.Nothing Found.Refused (found k) ≡ k) [ Found.At v ↦ refl | Found.Nothing ↦ refl | Found.Refused e ↦ ap Found.Refused (number_back e) ])
+    by_back found (back Some None)
+    (λ a. elim a as (λ k. back Some None (found k) ≡ k) [ Ok o ↦ elim o as (λ k. back Some None (found (Ok k)) ≡ Ok k) [ Some v ↦ refl | None ↦ refl ] | Err e ↦ ap Err (number_back e) ])
 
 pub counted_one : Injective counted
-counted_one =
-    by_back counted (back Count.Is (Count.Refused Rows) Count.Refused)
-    (λ a. elim a as (λ k. back Count.Is (Count.Refused Rows) Count.Refused (counted k) ≡ k) [ Count.Is v ↦ refl | Count.Refused e ↦ ap Count.Refused (number_back e) ])
+counted_one = by_back counted same (λ a. elim a as (λ k. same (counted k) ≡ k) [ Ok v ↦ refl | Err e ↦ ap Err (number_back e) ])
 
 pub done_one : Injective done
-done_one =
-    by_back done (back (λ u. Done.Yes) Done.Yes Done.Refused)
-    (λ a. elim a as (λ k. back (λ u. Done.Yes) Done.Yes Done.Refused (done k) ≡ k) [ Done.Yes ↦ refl | Done.Refused e ↦ ap Done.Refused (number_back e) ])
+done_one = by_back done same (λ a. elim a as (λ k. same (done k) ≡ k) [ Ok u ↦ refl | Err e ↦ ap Err (number_back e) ])
 
 pub opened_one : Injective opened
-opened_one =
-    by_back opened (back Opened.Index (Opened.Refused Rows) Opened.Refused)
-    (λ a. elim a as (λ k. back Opened.Index (Opened.Refused Rows) Opened.Refused (opened k) ≡ k) [ Opened.Index rec ↦ refl | Opened.Refused e ↦ ap Opened.Refused (number_back e) ])
+opened_one = by_back opened same (λ a. elim a as (λ k. same (opened k) ≡ k) [ Ok rec ↦ refl | Err e ↦ ap Err (number_back e) ])

@@ -9,13 +9,10 @@ use lib.ListN.{length, drop, get_or, length-map}
 use lib.Seq.{drop_at, drop-append_seam}
 use lib.Dec.{ltb, leb}
 use borrow.Author.Tests.{lt-leb, le-ltb}
+use Rattle.std.specs.Prelude.{Bool, Result}
+use Rattle.std.specs.Prelude.{Option as Maybe}
 use Rattle.spec.specs.declared.Record.{Record}
-use Rattle.spec.specs.declared.Answer.{Answer}
-use Rattle.spec.specs.declared.Number.{Number}
-use Rattle.spec.specs.declared.Found.{Found}
-use Rattle.spec.specs.declared.Count.{Count}
-use Rattle.spec.specs.declared.Done.{Done}
-use Rattle.spec.specs.declared.Opened.{Opened}
+use Rattle.spec.specs.declared.Refusal.{Refusal}
 use Rattle.spec.specs.Set.{rank, lookup, next, hits, ranks, selects, below, page}
 use Rattle.spec.specs.Layout.{Block, rows_of}
 use Rattle.spec.specs.Reading.{Head, Given}
@@ -36,11 +33,11 @@ with_one : {A S B : Type 0} (says : A → S) → Injective says → (a b : A) (x
     → (a ≡ b) × (x ≡ y)
 with_one says one a b x y e = (one a b (ap (λ p. p.0) e), ap (λ p. p.1) e)
 
-pub one_write : (count : ℕ) (rows out : List ℕ) (a b : Count) (x y : List ℕ) → WriteOwes count rows out (counted a, x)
+pub one_write : (count : ℕ) (rows out : List ℕ) (a b : Result ℕ Refusal) (x y : List ℕ) → WriteOwes count rows out (counted a, x)
     → WriteOwes count rows out (counted b, y) → (a ≡ b) × (x ≡ y)
 one_write count rows out a b x y p q = with_one counted counted_one a b x y (p ∙ sym q)
 
-pub one_open : (file directory : List ℕ) (a b : Opened) (x y : List ℕ) → OpenOwes file directory (opened a, x)
+pub one_open : (file directory : List ℕ) (a b : Result Record Refusal) (x y : List ℕ) → OpenOwes file directory (opened a, x)
     → OpenOwes file directory (opened b, y) → (a ≡ b) × (x ≡ y)
 one_open file directory a b x y p q = with_one opened opened_one a b x y (p ∙ sym q)
 
@@ -74,39 +71,39 @@ module _ (file directory : List ℕ) (rec : Record) where
       → Asked file directory rec late refused Free exact (says b) → a ≡ b
   one_answer says one late exact s a b p q = one a b (one_outcome _ _ refused Free exact (says a) (says b) s p q)
 
-  pub one_contains : (d : ℕ) → Outside file directory rec none → (a b : Answer) → ContainsOwes file directory rec d (answered a)
+  pub one_contains : (d : ℕ) → Outside file directory rec none → (a b : Result Bool Refusal) → ContainsOwes file directory rec d (answered a)
       → ContainsOwes file directory rec d (answered b) → a ≡ b
   one_contains d = one_answer answered answered_one none (say_contains d)
 
-  pub one_rank : (d : ℕ) → Outside file directory rec none → (a b : Number) → RankOwes file directory rec d (numbered a)
+  pub one_rank : (d : ℕ) → Outside file directory rec none → (a b : Result ℕ Refusal) → RankOwes file directory rec d (numbered a)
       → RankOwes file directory rec d (numbered b) → a ≡ b
   one_rank d = one_answer numbered numbered_one none (say_rank d)
 
-  pub one_lookup : (d : ℕ) → Outside file directory rec none → (a b : Found) → LookupOwes file directory rec d (found a)
+  pub one_lookup : (d : ℕ) → Outside file directory rec none → (a b : Result (Maybe ℕ) Refusal) → LookupOwes file directory rec d (found a)
       → LookupOwes file directory rec d (found b) → a ≡ b
   one_lookup d = one_answer found found_one none (say_lookup d)
 
-  pub one_next : (t : ℕ) → Outside file directory rec none → (a b : Found) → NextOwes file directory rec t (found a)
+  pub one_next : (t : ℕ) → Outside file directory rec none → (a b : Result (Maybe ℕ) Refusal) → NextOwes file directory rec t (found a)
       → NextOwes file directory rec t (found b) → a ≡ b
   one_next t = one_answer found found_one none (say_next t)
 
-  pub one_select : (k : ℕ) → Outside file directory rec (whenever (leb rec.populated k) 9) → (a b : Number)
+  pub one_select : (k : ℕ) → Outside file directory rec (whenever (leb rec.populated k) 9) → (a b : Result ℕ Refusal)
       → SelectOwes file directory rec k (numbered a) → SelectOwes file directory rec k (numbered b) → a ≡ b
   one_select k = one_answer numbered numbered_one (whenever (leb rec.populated k) 9) (say_select k)
 
   pub one_lookups : (questions rows ranks₀ : List ℕ)
       → Outside file directory rec (whenever (ltb (length rows) (length questions) || ltb (length ranks₀) (length questions)) 4)
-      → (a b : Count) (x y u v : List ℕ) → LookupBatchOwes file directory rec questions rows ranks₀ (counted a, x, u)
+      → (a b : Result ℕ Refusal) (x y u v : List ℕ) → LookupBatchOwes file directory rec questions rows ranks₀ (counted a, x, u)
       → LookupBatchOwes file directory rec questions rows ranks₀ (counted b, y, v) → (a ≡ b) × (x ≡ y) × (u ≡ v)
   one_lookups questions rows ranks₀ s a b x y u v p q =
       let e : ◌≡◌ {A = Said ℕ × List ℕ × List ℕ} (counted a, x, u) (counted b, y, v) = one_outcome _ _ _ _ _ _ _ s p q in
       (counted_one a b (ap (λ o. o.0) e), ap (λ o. o.1) e, ap (λ o. o.2) e)
 
-  pub one_selects : (ks : List ℕ) → Outside file directory rec (whenever (not (below rec.populated ks)) 9) → (a b : Done) (x y : List ℕ)
+  pub one_selects : (ks : List ℕ) → Outside file directory rec (whenever (not (below rec.populated ks)) 9) → (a b : Result (Unit {0}) Refusal) (x y : List ℕ)
       → SelectBatchOwes file directory rec ks (done a, x) → SelectBatchOwes file directory rec ks (done b, y) → (a ≡ b) × (x ≡ y)
   one_selects ks s a b x y p q = with_one done done_one a b x y (one_outcome _ _ _ _ _ _ _ s p q)
 
-  pub one_page : (r : ℕ) (out : List ℕ) → Outside file directory rec (whenever (ltb rec.populated r) 9) → (a b : Count) (x y : List ℕ)
+  pub one_page : (r : ℕ) (out : List ℕ) → Outside file directory rec (whenever (ltb rec.populated r) 9) → (a b : Result ℕ Refusal) (x y : List ℕ)
       → PageOwes file directory rec r out (counted a, x) → PageOwes file directory rec r out (counted b, y) → (a ≡ b) × (x ≡ y)
   one_page r out s a b x y p q = with_one counted counted_one a b x y (one_outcome _ _ _ _ _ _ _ s p q)
 

@@ -1,15 +1,11 @@
 -- What each call owes: its answer, by document 01's numbers and values, and every lent buffer afterwards.
 use Rattle.std.specs.Prelude.{ℕ, suc, ◌+◌, ◌-◌, ◌*◌, ◌≤◌, min, ◌≡◌, Bool, true, false, not, ◌||◌, cond, List, [], ◌∷◌, ◌++◌, length, drop, get_or, leb, ltb, eqb}
+use Rattle.std.specs.Prelude.{Result, Ok, Err, Some, None}
+use Rattle.std.specs.Prelude.{Option as Maybe}
 use Rattle.std.proofs.Math.Option.{Option, none, some}
 use Rattle.spec.specs.declared.Record.{Record}
 use Rattle.spec.specs.declared.Refusal.{Refusal}
 use Rattle.spec.specs.declared.Refusal.TheVariants.{Rows, Order, Range, Room, Header, Entries, Length, Content, Rank, Broken}
-use Rattle.spec.specs.declared.Answer as A
-use Rattle.spec.specs.declared.Number as N
-use Rattle.spec.specs.declared.Found as F
-use Rattle.spec.specs.declared.Count as C
-use Rattle.spec.specs.declared.Done as D
-use Rattle.spec.specs.declared.Opened as O
 use Rattle.spec.specs.Set.{bit, contains, rank, lookup, select, next, hits, ranks, selects, below, page}
 use Rattle.spec.specs.Layout.{Block, rows_of, file_of}
 use Rattle.spec.specs.Reading.{limit, count_of_blocks, Head, Verdict, fault, holds, verdict, record_of, directory_of, directory_length, Given}
@@ -36,36 +32,35 @@ pub data Said (A : Type 0) : Type 0 where
   refused : ℕ → Said A
 
 -- contains: 1 for yes, 0 for no
-abbrev pub answered : A.Answer → Said ℕ
-answered A.TheVariants.Yes = value 1
-answered A.TheVariants.No = value 0
-answered (A.TheVariants.Refused e) = refused (number e)
+abbrev pub answered : Result Bool Refusal → Said ℕ
+answered (Ok b) = value (bit b)
+answered (Err e) = refused (number e)
 
 -- rank and select
-abbrev pub numbered : N.Number → Said ℕ
-numbered (N.TheVariants.Is v) = value v
-numbered (N.TheVariants.Refused e) = refused (number e)
+abbrev pub numbered : Result ℕ Refusal → Said ℕ
+numbered (Ok v) = value v
+numbered (Err e) = refused (number e)
 
 -- lookup and next
-abbrev pub found : F.Found → Said ℕ
-found (F.TheVariants.At v) = value v
-found F.TheVariants.Nothing = nothing
-found (F.TheVariants.Refused e) = refused (number e)
+abbrev pub found : Result (Maybe ℕ) Refusal → Said ℕ
+found (Ok (Some v)) = value v
+found (Ok None) = nothing
+found (Err e) = refused (number e)
 
 -- write, batch lookup and page
-abbrev pub counted : C.Count → Said ℕ
-counted (C.TheVariants.Is v) = value v
-counted (C.TheVariants.Refused e) = refused (number e)
+abbrev pub counted : Result ℕ Refusal → Said ℕ
+counted (Ok v) = value v
+counted (Err e) = refused (number e)
 
 -- batch select, which has no value but that it is done
-abbrev pub done : D.Done → Said (Unit {0})
-done D.TheVariants.Yes = value tt
-done (D.TheVariants.Refused e) = refused (number e)
+abbrev pub done : Result (Unit {0}) Refusal → Said (Unit {0})
+done (Ok u) = value u
+done (Err e) = refused (number e)
 
 -- open
-abbrev pub opened : O.Opened → Said Record
-opened (O.TheVariants.Index rec) = value rec
-opened (O.TheVariants.Refused e) = refused (number e)
+abbrev pub opened : Result Record Refusal → Said Record
+opened (Ok rec) = value rec
+opened (Err e) = refused (number e)
 
 -- the C calls' number: the value, or 4,294,967,296 plus the refusal number, with 4,294,967,296 itself for "none"
 abbrev pub code : Said ℕ → ℕ

@@ -1,8 +1,8 @@
-// The answers of the calls, and the record and the entry that they speak of. What they mean stands in specs/.
+// The answers of the calls, the refusals, and the record and the entry that they speak of. What they mean stands in specs/.
 #![tactic(auto)]
 
 // What opening returns beside the directory: the row count, how many rows are populated, and where the data starts.
-#[derive(Clone, Copy)]
+#[derive(Clone, Copy, Debug, PartialEq, Eq)]
 pub struct Record {
     pub row_count: u32,
     pub populated: u32,
@@ -10,65 +10,40 @@ pub struct Record {
 }
 
 // A populated block by its entry: its number, and how many rows are in it (one more than the entry stores).
-#[derive(Clone, Copy)]
+#[derive(Clone, Copy, Debug, PartialEq, Eq)]
 pub struct Entry {
     pub number: u16,
     pub rows: u32,
 }
 
-#[derive(Clone, Copy)]
+// Why a call gives no value, each with its number.
+#[derive(Clone, Copy, Debug, PartialEq, Eq)]
 pub enum Refusal {
-    Rows,
-    Order,
-    Range,
-    Room,
-    Header,
-    Entries,
-    Length,
-    Content,
-    Rank,
-    Broken,
+    Rows = 1,
+    Order = 2,
+    Range = 3,
+    Room = 4,
+    Header = 5,
+    Entries = 6,
+    Length = 7,
+    Content = 8,
+    Rank = 9,
+    Broken = 10,
 }
 
 // contains
-#[derive(Clone, Copy)]
-pub enum Answer {
-    Yes,
-    No,
-    Refused(Refusal),
-}
+pub type Answer = Result<bool, Refusal>;
 
 // rank, select
-#[derive(Clone, Copy)]
-pub enum Number {
-    Is(u32),
-    Refused(Refusal),
-}
+pub type Number = Result<u32, Refusal>;
 
-// lookup, where Nothing is "not there"; next, where it is "none"
-#[derive(Clone, Copy)]
-pub enum Found {
-    At(u32),
-    Nothing,
-    Refused(Refusal),
-}
+// lookup, where None is "not there"; next, where it is "none"
+pub type Found = Result<Option<u32>, Refusal>;
 
 // write, batch lookup, page
-#[derive(Clone, Copy)]
-pub enum Count {
-    Is(usize),
-    Refused(Refusal),
-}
+pub type Count = Result<usize, Refusal>;
 
 // batch select
-#[derive(Clone, Copy)]
-pub enum Done {
-    Yes,
-    Refused(Refusal),
-}
+pub type Done = Result<(), Refusal>;
 
-#[derive(Clone, Copy)]
-pub enum Opened {
-    Index(Record),
-    Refused(Refusal),
-}
+pub type Opened = Result<Record, Refusal>;

@@ -10,10 +10,11 @@ use native.Mathlib.Omega.{arith}
 use lib.ListN.{length, get_or, drop, drop_of_length-le}
 use lib.Seq.{drop-cons}
 use lib.Dec.{leb}
+use Rattle.std.specs.Prelude.{Ok, Err}
 use borrow.Author.Tests.{le-leb, lt-leb, lt-ltb, le-ltb, eq-eqb, ne_eqb}
 use Rattle.spec.specs.Reading.{Head, onto, ungroups}
 use Rattle.words.specs.Count.{count_in}
-use Rattle.words.specs.declared.count.Counted.TheVariants.{Is, Padded, Unended}
+use Rattle.words.specs.declared.count.CountFault.TheVariants.{Padded, Unended}
 
 -- what stands behind i bytes, which make `count`, where the next byte counts w-fold
 abbrev behind : ℕ → ℕ → ℕ → Option Head → Option Head
@@ -57,15 +58,15 @@ one_more count w i b (some h) = λ j. some (record { count = sum j; start = long
 
 module _ {s : List ℕ} {count w i : ℕ} (r : SoFar s count w i) where
   -- what is left says nothing
-  ended : ungroups (5 - i) (drop i s) ≡ none → Unended ≡ count_in (ungroups 5 s) s
+  ended : ungroups (5 - i) (drop i s) ≡ none → Err Unended ≡ count_in (ungroups 5 s) s
   ended e = ap (λ o. count_in o s) (rw e at r.whole)
 
   -- the bytes end
-  pub short : length s ≤ i → Unended ≡ count_in (ungroups 5 s) s
+  pub short : length s ≤ i → Err Unended ≡ count_in (ungroups 5 s) s
   short l = ended (rw (drop_of_length-le s {i = i} l) (none_left (5 - i)))
 
   -- five bytes are read, and the row count has not ended
-  pub past : 5 ≤ i → Unended ≡ count_in (ungroups 5 s) s
+  pub past : 5 ≤ i → Err Unended ≡ count_in (ungroups 5 s) s
   unfolding ungroups
   past l = let e : 5 - i ≡ 0 = omega arith in ended (rw e)
 
@@ -109,12 +110,12 @@ module _ {s : List ℕ} {count w i : ℕ} (r : SoFar s count w i) where
         back = omega arith
 
         -- the last of several, and 128: padded
-        pub last_padded : 1 < i + 1 → get_or s i 0 ≡ 128 → Padded ≡ count_in (ungroups 5 s) s
+        pub last_padded : 1 < i + 1 → get_or s i 0 ≡ 128 → Err Padded ≡ count_in (ungroups 5 s) s
         last_padded p e = rw (← last, lt-ltb 1 (i + 1) p, back, eq-eqb (get_or s i 0) 128 e)
 
         -- the row count that is answered then
         abbrev Said : Type 0
-        Said = Is (record { count = count + get_or s i 0 % 128 * w; start = i + 1 }) ≡ count_in (ungroups 5 s) s
+        Said = Ok (record { count = count + get_or s i 0 % 128 * w; start = i + 1 }) ≡ count_in (ungroups 5 s) s
 
         -- the last of several, and another
         pub last_several : 1 < i + 1 → (get_or s i 0 ≡ 128 → ⊥) → Said

@@ -3,8 +3,8 @@ use Rattle.std.specs.Prelude.{ℕ, ◌+◌, ◌%◌, ◌^◌, ◌≤◌, ◌<◌
 use Rattle.std.proofs.Math.Option.{Option, none, some}
 use Rattle.spec.specs.Set.{rising, rank, hits, page}
 use Rattle.spec.specs.Layout.{size, data_of}
-use Rattle.words.specs.declared.Place.{Place}
-use Rattle.words.specs.declared.Place.TheVariants.{At, Nothing}
+use Rattle.std.specs.Prelude.{Some, None}
+use Rattle.std.specs.Prelude.{Option as Maybe}
 
 -- the part is the data of the places ps
 pub record Holds (part ps : List ℕ) : Type 0 where
@@ -15,14 +15,15 @@ pub record Holds (part ps : List ℕ) : Type 0 where
 abbrev pub Of : List ℕ → (List ℕ → Type 0) → Type 0
 Of part exact = (ps : List ℕ) → Holds part ps → exact ps
 
-abbrev pub placed : Place → Option ℕ
-placed (At v) = some v
-placed Nothing = none
+-- what a question answers
+abbrev pub placed : Maybe ℕ → Option ℕ
+placed (Some v) = some v
+placed None = none
 
 -- a place is below 65,536
-abbrev pub Inside : Place → Type 0
-Inside (At v) = v < size
-Inside Nothing = Unit {0}
+abbrev pub Inside : Maybe ℕ → Type 0
+Inside (Some v) = v < size
+Inside None = Unit {0}
 
 -- questions that never fall
 abbrev pub NeverFalls : List ℕ → Type 0

@@ -2,6 +2,9 @@
 ghost use Rattle.std.specs.Prelude.{◌≡◌};
 ghost use Rattle.spec.specs.Reading.{count_of_blocks, size_of_data};
 
+// The largest row count: 65,535 blocks of 65,536 rows.
+pub const LIMIT: u32 = 4294901760;
+
 // B: the row count divided by 65,536, rounded up.
 pub fn block_count(row_count: u32) -> usize
     ensures { result ≡ count_of_blocks row_count }

@@ -6,21 +6,21 @@ ghost use Rattle.spec.specs.Reading.{ungroups};
 ghost use Rattle.words.specs.Count.{count_in};
 
 // A row count, and how many bytes it takes.
-#[derive(Clone, Copy)]
+#[derive(Clone, Copy, Debug, PartialEq, Eq)]
 pub struct RowCount {
     pub count: u64,
     pub start: usize,
 }
 
-#[derive(Clone, Copy)]
-pub enum Counted {
-    Is(RowCount),
+// Why the front of some bytes is no row count.
+#[derive(Clone, Copy, Debug, PartialEq, Eq)]
+pub enum CountFault {
     Padded,
     Unended,
 }
 
 // The row count at the front of s, if it ends within five bytes.
-pub fn read(s: &[u8]) -> Counted
+pub fn read(s: &[u8]) -> Result<RowCount, CountFault>
     ensures { result ≡ count_in (ungroups 5 s.now) s.now }
 {
     let mut count: u64 = 0;
@@ -28,7 +28,7 @@ pub fn read(s: &[u8]) -> Counted
     let mut i = 0;
     while i < 5 {
         if s.len() <= i {
-            return Counted::Unended;
+            return Err(CountFault::Unended);
         }
         let b = s[i] as u64;
         i += 1;
@@ -36,14 +36,14 @@ pub fn read(s: &[u8]) -> Counted
         if 128 <= b {
             if 1 < i {
                 if b == 128 {
-                    return Counted::Padded;
+                    return Err(CountFault::Padded);
                 }
             }
-            return Counted::Is(RowCount { count, start: i });
+            return Ok(RowCount { count, start: i });
         }
         weight = weight * 128;
     }
-    Counted::Unended
+    Err(CountFault::Unended)
 }
 
 // How many bytes the shortest form of a row count takes.

@@ -1,5 +1,5 @@
-// Numbers in bytes: little-endian ones, the row count's groups of seven bits, and entries. Bytes copied, numbers of blocks, and what a
-// block's questions answer.
+// Numbers in bytes: little-endian ones, the row count's groups of seven bits, and entries. Bytes copied, and
+// numbers of blocks.
 #![tactic(auto)]
 
 pub mod block;
@@ -10,13 +10,6 @@ pub mod le;
 ghost use Rattle.std.specs.Prelude.{◌≡◌, ◌+◌, ◌≤◌, length};
 ghost use Rattle.std.proofs.lemmas.List.Edits.{sets};
 ghost use Rattle.spec.specs.Reading.{part};
-
-// What a block says to lookup and next: a number, or that there is none.
-#[derive(Clone, Copy)]
-pub enum Place {
-    At(u32),
-    Nothing,
-}
 
 // The w bytes of s from a on, stored in d from b on; the rest of d stays.
 pub fn copy(s: &[u8], a: usize, d: &mut [u8], b: usize, w: usize)

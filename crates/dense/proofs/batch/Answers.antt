@@ -28,13 +28,13 @@ bounds-ranks-n c = omega (arith, c.loop-i.invariant.filled [])
 pub overflow_add-n : goal.overflow_add-n
 overflow_add-n c = omega (arith, c.loop-i.invariant.filled [])
 
-pub loop-i-preserved-in-At : goal.loop-i-preserved-in-At
-loop-i-preserved-in-At c =
+pub loop-i-preserved-in-Some : goal.loop-i-preserved-in-Some
+loop-i-preserved-in-Some c =
     asking_hit c.loop-i.invariant c.requires.never_falls.1 (omega arith) c.lookup.ensures _ _
-    c.in-At.is c.wrapping_add_u32.ensures.value
+    c.in-Some.is c.wrapping_add_u32.ensures.value
 
 pub loop-i-preserved : goal.loop-i-preserved
-loop-i-preserved c = asking_miss c.loop-i.invariant c.requires.never_falls.1 (omega arith) c.lookup.ensures c.in-Nothing.is
+loop-i-preserved c = asking_miss c.loop-i.invariant c.requires.never_falls.1 (omega arith) c.lookup.ensures c.in-None.is
 
 pub shape_of-rows : goal.shape_of-rows
 shape_of-rows c = (c.loop-i.invariant.filled []).rows_long

@@ -1,5 +1,0 @@
--- `codes::of_found` meets its contract: a refusal's number is what `refused` ensures. Assumes nothing.
-use Rattle.codes.proofs.of_found.Goals as goal
-
-pub returns-in-Refused : goal.returns-in-Refused
-returns-in-Refused c = cc
