@@ -1,18 +1,18 @@
 -- The lowest places of a word: clearing the lowest bit, the trailing zeros, the bits from a place on, and none past an end.
 use Prim.Native.Nat.{ℕ, zero, suc, ◌+◌, ◌-◌, ◌*◌, ◌/◌, ◌%◌, ◌^◌, ◌≤◌, ◌<◌}
 use mathlib.Core.Path.{◌≡◌, refl, sym, ap, ap₂, ◌∙◌}
-use mathlib.Core.Bool.{true, cond}
+use mathlib.Core.Bool.{true}
 use mathlib.Core.List.{[], ◌∷◌}
 use mathlib.Core.Option.{some, none}
 use native.Mathlib.Nat.{mod-eq_of_lt, div-one, div-eq_of_lt, zero-div, div-mul-le_self, lt_of_le_of_lt, lt_of_lt_of_le, mul-one, add-zero, pow-suc}
 use native.Mathlib.Omega.{arith}
 use lib.ListN.{length, get_or, drop, length-drop}
 use lib.Seq.{drop-cons, drop-drop, get_or-drop}
-use lib.Dec.{ltb, eqb, leb-suc-suc}
+use lib.Dec.{ltb, eqb}
 use lib.Bits.{bit_and, and_step, and_self}
 use lib.Count.{count_trailing_zeros}
 use lib.Pow.{pow_mono}
-use borrow.Author.Tests.{eq-eqb, ne_eqb, eqb-true, eqb-false, lt-leb, le-leb, lt-ltb, le-ltb, ltb-true, ltb-false}
+use borrow.Author.Tests.{eq-eqb, ne_eqb, eqb-true, eqb-false, lt-leb, le-leb, ltb-true, ltb-false}
 use Rattle.spec.specs.Set.{next, below}
 use Rattle.spec.specs.Reading.{bits}
 use Rattle.spec.proofs.Tests.{by_test}

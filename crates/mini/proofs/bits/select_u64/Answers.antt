@@ -1,7 +1,6 @@
-use mathlib.Core.Path.{◌≡◌, refl, ap, ◌∙◌}
+use mathlib.Core.Path.{◌≡◌, ap, ◌∙◌}
 use native.Mathlib.Omega.{arith}
 use lib.ListN.{get_or}
-use lib.Count.{trailing_le}
 use Rattle.spec.specs.Reading.{bits}
 use Rattle.mini.proofs.LowestLaws.{some_left, cleared_more, first_left}
 use Rattle.mini.proofs.bits.select_u64.Goals as goal
@@ -13,9 +12,6 @@ pub loop-preserved : goal.loop-preserved
 loop-preserved c =
     let l = c.loop in
     cleared_more c.args.bitvec l.left l.counter l.invariant (omega (arith, c.requires))
-
-pub overflow_cast-result : goal.overflow_cast-result
-overflow_cast-result c = omega (arith, trailing_le 64 c.loop.left)
 
 pub returns : goal.returns
 returns c =
