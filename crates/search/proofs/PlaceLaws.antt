@@ -51,16 +51,16 @@ part_cut bs n m k h =
 
 -- the bytes of the places from a up to e
 abbrev pub cut : List ℕ → ℕ → ℕ → List ℕ
-cut bs a e = take (e * 2 - a * 2) (drop (a * 2) bs)
+cut bs a e = take (2 * e - 2 * a) (drop (2 * a) bs)
 
 module _ (bs : List ℕ) (a e : ℕ) (ends : a ≤ e) (inside : e ≤ length bs / 2) where
   pub length_cut : length (cut bs a e) / 2 ≡ e - a
-  length_cut = omega (arith, length-take (e * 2 - a * 2) (drop (a * 2) bs), length-drop (a * 2) bs)
+  length_cut = omega (arith, length-take (2 * e - 2 * a) (drop (2 * a) bs), length-drop (2 * a) bs)
 
   place_cut : (i : ℕ) → i < e - a → get_or (places_said (cut bs a e)) i 0 ≡ get_or (places_said bs) (a + i) 0
   place_cut i h =
-      let k : a * 2 + 2 * i ≡ 2 * (a + i) = omega arith in
-      place_at (cut bs a e) i (omega (arith, length_cut)) ∙ ap number_in (part_cut bs (e * 2 - a * 2) (a * 2) (2 * i) (omega arith) ∙ rw k)
+      let k : 2 * a + 2 * i ≡ 2 * (a + i) = omega arith in
+      place_at (cut bs a e) i (omega (arith, length_cut)) ∙ ap number_in (part_cut bs (2 * e - 2 * a) (2 * a) (2 * i) (omega arith) ∙ rw k)
       ∙ sym (place_at bs (a + i) (omega arith))
 
   -- their places are those of the whole from a up to e
