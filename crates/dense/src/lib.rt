@@ -2,7 +2,7 @@
 // take its part of the file, 10,240 bytes. Of any such bytes they answer something safe, and of a block's data what its places say.
 #![tactic(auto)]
 
-ghost use Rattle.std.specs.Prelude.{◌≡◌, ◌+◌, ◌%◌, ◌^◌, ◌<◌, ◌≤◌, true, map, length};
+ghost use Rattle.std.specs.Prelude.{MatchOption, ◌≡◌, ◌+◌, ◌%◌, ◌^◌, ◌<◌, ◌≤◌, true, map, length};
 ghost use Rattle.spec.specs.Set.{rising, contains, rank, lookup, select, next};
 ghost use Rattle.spec.specs.Layout.{size, dense_data};
 ghost use Rattle.spec.specs.Reading.{is_content};
@@ -13,6 +13,13 @@ use mini::bits;
 
 // A dense block's data, as its part of the file has them.
 pub type Data = [u8; 10240];
+
+// A part as a dense block's data: 5,119 places, the most of a sparse block, take 10,238 bytes.
+pub fn data(part: &[u8]) -> Option<&Data>
+    ensures { MatchOption result (length part.now ≡ 10240 → ⊥) (λ d. d.now ≡ part.now) }
+{
+    part.as_array()
+}
 
 // Whether a place is in the block.
 pub fn contains(part: &Data, place: u16) -> bool
