@@ -9,6 +9,7 @@ use native.Mathlib.Omega.{arith}
 use lib.ListN.{length, get_or}
 use lib.Dec.{leb, ltb}
 use borrow.Author.Tests.{leb-true, ltb-true}
+use Rattle.std.specs.Prelude.{Option, Some, None}
 use Rattle.spec.specs.declared.Entry.{Entry}
 use Rattle.spec.specs.Reading.{count_of_blocks, rows_at, part, entry_in, entries_at, entries_ok, size_of_data, data_sizes}
 use Rattle.spec.proofs.Tests.{and_true}
@@ -17,7 +18,6 @@ use Rattle.spec.proofs.Content.{size_le}
 use Rattle.words.proofs.LeLaws.{part_first}
 use Rattle.judging.specs.Phases.{is_entry, row_sum, totals_from}
 use Rattle.judging.specs.declared.entries.Totals.{Totals}
-use Rattle.judging.specs.declared.entries.Totals.TheVariants.{Sums, Wrong}
 
 -- ---- four bytes, one by one
 
@@ -76,7 +76,7 @@ right count low x e =
     record { from = leb-true _ _ q.0; inside = ltb-true _ _ q.1; few = leb-true _ _ p.1 }
 
 module _ (count low rows bytes : ℕ) (x : Entry) (es : List Entry) where
-  totals_wrong : is_entry count low x ≡ false → totals_from count low rows bytes (x ∷ es) ≡ Wrong
+  totals_wrong : is_entry count low x ≡ false → totals_from count low rows bytes (x ∷ es) ≡ None
   unfolding totals_from entries_ok
   totals_wrong e = rw e
 
@@ -107,17 +107,17 @@ small_more {count} {low} {rows} {bytes} {x} s r =
     record { blocks = omega arith; few = omega (arith, s.few, s.fewer); fewer = omega (arith, s.fewer); bytes' = omega (arith, s.bytes') }
 
 -- on top of them, the entries left give what all entries give
-pub record Adding (file : List ℕ) (count : ℕ) (all : Totals) (low rows bytes at left : ℕ) : Type 0 where
+pub record Adding (file : List ℕ) (count : ℕ) (all : Option Totals) (low rows bytes at left : ℕ) : Type 0 where
   pub walk : Walk (totals_from count low rows bytes) all file at left
   pub small : Small count low rows bytes
 
-module _ {file : List ℕ} {count : ℕ} {all : Totals} {low rows bytes at left : ℕ} (a : Adding file count all low rows bytes at left) where
-  pub adding_end : left ≤ 0 → Sums rows bytes ≡ all
+module _ {file : List ℕ} {count : ℕ} {all : Option Totals} {low rows bytes at left : ℕ} (a : Adding file count all low rows bytes at left) where
+  pub adding_end : left ≤ 0 → Some (record { rows = rows; size = bytes }) ≡ all
   unfolding totals_from entries_ok row_sum data_sizes
-  adding_end h = sym (ap₂ Sums (add-zero rows) (add-zero bytes)) ∙ walk_all a.walk h
+  adding_end h = sym (ap₂ (λ r b. Some (record { rows = r; size = b })) (add-zero rows) (add-zero bytes)) ∙ walk_all a.walk h
 
   module _ (x : Entry) (h : 0 < left) (e : x ≡ entry_in (part at (at + 4) file)) where
-    pub adding_wrong : is_entry count low x ≡ false → Wrong ≡ all
+    pub adding_wrong : is_entry count low x ≡ false → None ≡ all
     adding_wrong o = sym (totals_wrong count low rows bytes x (entries_at (left - 1) (at + 4) file) o) ∙ walk_some a.walk x h e
 
     pub adding_small : is_entry count low x ≡ true → Small count (x.number + 1) (rows + x.rows) (bytes + size_of_data x.rows)

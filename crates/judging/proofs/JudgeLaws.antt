@@ -9,6 +9,8 @@ use native.Mathlib.Omega.{arith}
 use lib.ListN.{length}
 use lib.Dec.{ltb}
 use borrow.Author.Tests.{ltb-true, ltb-false}
+use Rattle.std.specs.Prelude.{Ok, Err, Some, None}
+use Rattle.std.specs.Prelude.{Option as Maybe}
 use Rattle.spec.specs.declared.Entry.{Entry}
 use Rattle.spec.specs.declared.Refusal.{Refusal}
 use Rattle.spec.specs.Reading as R
@@ -19,9 +21,8 @@ use Rattle.spec.proofs.Tests.{by_test}
 use Rattle.spec.proofs.Bytes.{length_part}
 use Rattle.spec.proofs.Verdict.{head_in, unended_5, padded_5, rows_1, overlap_6, entries_6, length_7, content_8, passed_holds}
 use Rattle.judging.specs.Phases.{judged, head_says, head_of, row_sum, totals_from, totals}
-use Rattle.judging.specs.declared.head.Head.TheVariants.{Is, Refused}
+use Rattle.judging.specs.declared.head.Head.{Head}
 use Rattle.judging.specs.declared.entries.Totals.{Totals}
-use Rattle.judging.specs.declared.entries.Totals.TheVariants.{Sums, Wrong}
 use Rattle.judging.proofs.HeadLaws.{head_within}
 use Rattle.judging.proofs.ContentLaws.{contents_many}
 
@@ -35,21 +36,24 @@ pub record Headed (file : List ℕ) (h : R.Head) : Type 0 where
   pub short : h.start ≤ 5
   pub upto : h.start + 2 ≤ length file
 
+-- the row count of a head
+abbrev pub count_read : Head → R.Head
+count_read head = record { count = head.row_count; start = head.start }
+
 module _ (file : List ℕ) where
-  pub headed : (count start : ℕ) → head_of file ≡ Is count start → Headed file (record { count = count; start = start })
+  pub headed : (head : Head) → head_of file ≡ Ok head → Headed file (count_read head)
   unfolding head_says
-  headed count start e = go (head_in file) refl e
+  headed head e = go (head_in file) refl e
     where
-      go : (o : Option R.Head) → head_in file ≡ o → head_says file o ≡ Is count start → Headed file (record { count = count; start = start })
+      go : (o : Option R.Head) → head_in file ≡ o → head_says file o ≡ Ok head → Headed file (count_read head)
       go none p q = absurd (let z : ◌≡◌ {A = ℕ} 0 1 = cc in omega arith)
       go (some h) p q =
           by_test (padded h file) (λ u. let r = rw u at q in absurd (let z : ◌≡◌ {A = ℕ} 0 1 = cc in omega arith))
           (λ u. by_test (ltb limit h.count) (λ l. let r = rw (u, l) at q in absurd (let z : ◌≡◌ {A = ℕ} 0 1 = cc in omega arith))
           (λ l.
-          let r : Is h.count h.start ≡ Is count start = rw (u, l) at q in
-          let c : h.count ≡ count = cc in
-          let s : h.start ≡ start = cc in
-          let same : h ≡ record { count = count; start = start } = λ i. record { count = c i; start = s i } in
+          let r : Ok (record { row_count = h.count; start = h.start }) ≡ Ok head = rw (u, l) at q in
+          let k : record { row_count = h.count; start = h.start } ≡ head = cc in
+          let same : h ≡ count_read head = ap count_read k in
           let w = head_within 5 (part 0 (length file - 2) file) h p in
           subst (Headed file) same (record {
             read = p;
@@ -59,11 +63,11 @@ module _ (file : List ℕ) where
             upto = omega (arith, w.0, w.2, length_part 0 (length file - 2) file (omega arith) (omega arith));
           })))
 
-  pub head_refused : (e : Refusal) → head_of file ≡ Refused e → refused (number e) ≡ judged (verdict file)
+  pub head_refused : (e : Refusal) → head_of file ≡ Err e → refused (number e) ≡ judged (verdict file)
   unfolding head_says
   head_refused e q = go (head_in file) refl q
     where
-      go : (o : Option R.Head) → head_in file ≡ o → head_says file o ≡ Refused e → refused (number e) ≡ judged (verdict file)
+      go : (o : Option R.Head) → head_in file ≡ o → head_says file o ≡ Err e → refused (number e) ≡ judged (verdict file)
       go none p q = rw (unended_5 file p) (cc)
       go (some h) p q =
           by_test (padded h file) (λ u. let r = rw u at q in rw (padded_5 file h p u) (cc))
@@ -72,18 +76,18 @@ module _ (file : List ℕ) where
 
 -- ---- the entries' sums
 
-wrong_entries : (count : ℕ) (es : List Entry) → Wrong ≡ totals count es → entries_ok count 0 es ≡ false
+wrong_entries : (count : ℕ) (es : List Entry) → None ≡ totals count es → entries_ok count 0 es ≡ false
 unfolding totals_from
 wrong_entries count es e =
     by_test (entries_ok count 0 es) (λ o. let r = rw o at e in absurd (let z : ◌≡◌ {A = ℕ} 0 1 = cc in omega arith)) (λ o. o)
 
-right_sums : (count rows bytes : ℕ) (es : List Entry) → Sums rows bytes ≡ totals count es → (entries_ok count 0 es ≡ true) × (rows ≡ row_sum es) × (bytes ≡ data_sizes es)
+right_sums : (count : ℕ) (t : Totals) (es : List Entry) → Some t ≡ totals count es → (entries_ok count 0 es ≡ true) × (t.rows ≡ row_sum es) × (t.size ≡ data_sizes es)
 unfolding totals_from
-right_sums count rows bytes es e =
+right_sums count t es e =
     by_test (entries_ok count 0 es)
-    (λ o. let r : Sums rows bytes ≡ Sums (0 + row_sum es) (0 + data_sizes es) = rw o at e in
-    let a : rows ≡ 0 + row_sum es = cc in
-    let b : bytes ≡ 0 + data_sizes es = cc in (o, a ∙ zero-add (row_sum es), b ∙ zero-add (data_sizes es)))
+    (λ o. let r : Some t ≡ Some (record { rows = 0 + row_sum es; size = 0 + data_sizes es }) = rw o at e in
+    let s : t ≡ record { rows = 0 + row_sum es; size = 0 + data_sizes es } = cc in
+    (o, ap (λ t. t.rows) s ∙ zero-add (row_sum es), ap (λ t. t.size) s ∙ zero-add (data_sizes es)))
     (λ o. let r = rw o at e in absurd (let z : ◌≡◌ {A = ℕ} 0 1 = cc in omega arith))
 
 -- ---- behind the head: n entries are said to stand before the last two bytes
@@ -107,37 +111,37 @@ module _ {file : List ℕ} {h : R.Head} {n : ℕ} (f : Fitting file h n) where
   same : entries_at n (length file - 2 - 4 * n) file ≡ entries_of file
   same = ap (λ k. entries_at k (length file - 2 - 4 * k) file) f.many
 
-  pub says_wrong : Wrong ≡ totals h.count (entries_at n (length file - 2 - 4 * n) file) → refused 6 ≡ judged (verdict file)
+  pub says_wrong : None ≡ totals h.count (entries_at n (length file - 2 - 4 * n) file) → refused 6 ≡ judged (verdict file)
   says_wrong t =
       let d = f.head in rw (entries_6 file h d.read d.unpadded d.limited fits (wrong_entries h.count (entries_of file) (rw same at t)))
 
 -- and they are right, with these sums
-pub record Summed (file : List ℕ) (h : R.Head) (n rows bytes : ℕ) : Type 0 where
+pub record Summed (file : List ℕ) (h : R.Head) (n : ℕ) (t : Totals) : Type 0 where
   pub fitting : Fitting file h n
-  pub sums : Sums rows bytes ≡ totals h.count (entries_at n (length file - 2 - 4 * n) file)
+  pub sums : Some t ≡ totals h.count (entries_at n (length file - 2 - 4 * n) file)
 
 -- what the row count and the number of entries, as they were read, say of the file
-module _ (file : List ℕ) {count start n : ℕ} (e : head_of file ≡ Is count start) (q : n ≡ number_in (part (length file - 2) (length file - 2 + 2) file)) where
+module _ (file : List ℕ) {head : Head} {n : ℕ} (e : head_of file ≡ Ok head) (q : n ≡ number_in (part (length file - 2) (length file - 2 + 2) file)) where
   pub counted : n ≡ entry_count file
-  counted = entry_count_back file n (omega (arith, (headed file count start e).upto)) q
+  counted = entry_count_back file n (omega (arith, (headed file head e).upto)) q
 
-  pub fitting : start + 4 * n + 2 ≤ length file → Fitting file (record { count = count; start = start }) n
-  fitting l = record { head = headed file count start e; many = counted; room = l }
+  pub fitting : head.start + 4 * n + 2 ≤ length file → Fitting file (count_read head) n
+  fitting l = record { head = headed file head e; many = counted; room = l }
 
-  pub summed : {rows bytes : ℕ} {t : Totals} → start + 4 * n + 2 ≤ length file → t ≡ Sums rows bytes → t ≡ totals count (entries_at n (length file - 2 - 4 * n) file)
-      → Summed file (record { count = count; start = start }) n rows bytes
-  summed l is t = record { fitting = fitting l; sums = sym is ∙ t }
+  pub summed : {t : Totals} {o : Maybe Totals} → head.start + 4 * n + 2 ≤ length file → o ≡ Some t → o ≡ totals head.row_count (entries_at n (length file - 2 - 4 * n) file)
+      → Summed file (count_read head) n t
+  summed l is o = record { fitting = fitting l; sums = sym is ∙ o }
 
-module _ {file : List ℕ} {h : R.Head} {n rows bytes : ℕ} (s : Summed file h n rows bytes) where
-  right : (entries_ok h.count 0 (entries_of file) ≡ true) × (rows ≡ row_sum (entries_of file)) × (bytes ≡ data_sizes (entries_of file))
-  right = right_sums h.count rows bytes (entries_of file) (rw (same s.fitting) at s.sums)
+module _ {file : List ℕ} {h : R.Head} {n : ℕ} {t : Totals} (s : Summed file h n t) where
+  right : (entries_ok h.count 0 (entries_of file) ≡ true) × (t.rows ≡ row_sum (entries_of file)) × (t.size ≡ data_sizes (entries_of file))
+  right = right_sums h.count t (entries_of file) (rw (same s.fitting) at s.sums)
 
-  pub says_length : (length file - 2 - 4 * n - h.start ≡ bytes → ⊥) → refused 7 ≡ judged (verdict file)
+  pub says_length : (length file - 2 - 4 * n - h.start ≡ t.size → ⊥) → refused 7 ≡ judged (verdict file)
   says_length k =
       let d = s.fitting.head in
       rw (length_7 file h d.read d.unpadded d.limited (fits s.fitting) right.0 (λ e. k (omega (arith, s.fitting.many, right.2))))
 
-  module _ (l : length file - 2 - 4 * n - h.start ≡ bytes) where
+  module _ (l : length file - 2 - 4 * n - h.start ≡ t.size) where
     sizes : entry_start file - h.start ≡ data_sizes (entries_of file)
     sizes = omega (arith, s.fitting.many, right.2)
 
@@ -152,10 +156,10 @@ module _ {file : List ℕ} {h : R.Head} {n rows bytes : ℕ} (s : Summed file h 
       says_content o =
           let d = s.fitting.head in rw (content_8 file h d.read d.unpadded d.limited (fits s.fitting) right.0 sizes (contents ∙ o))
 
-      pub says_record : ok ≡ true → value (record { row_count = h.count; populated = rows; data_start = h.start }) ≡ judged (verdict file)
+      pub says_record : ok ≡ true → value (record { row_count = h.count; populated = t.rows; data_start = h.start }) ≡ judged (verdict file)
       says_record o =
           let d = s.fitting.head in
-          let many : rows ≡ length (rows_of (blocks_at (entries_of file) h.start file)) =
+          let many : t.rows ≡ length (rows_of (blocks_at (entries_of file) h.start file)) =
           right.1 ∙ sym (contents_many h.count h.start file (entries_of file) (contents ∙ o)) in
           rw (passed_holds file h d.read (record {
             unpadded = d.unpadded;

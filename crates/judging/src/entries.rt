@@ -6,14 +6,14 @@ ghost use Rattle.judging.specs.Phases.{is_entry, totals};
 use spec::Entry;
 
 // What the entries call for: so many populated rows, and so many data bytes.
-#[derive(Clone, Copy)]
-pub(crate) enum Totals {
-    Sums { rows: u32, size: usize },
-    Wrong,
+#[derive(Clone, Copy, Debug, PartialEq, Eq)]
+pub(crate) struct Totals {
+    pub rows: u32,
+    pub size: usize,
 }
 
 // Their sums, if they are right: entries from an index on, which end inside the file.
-pub(crate) fn add_up(bytes: &[u8], from: usize, entries: usize, row_count: u32) -> Totals
+pub(crate) fn add_up(bytes: &[u8], from: usize, entries: usize, row_count: u32) -> Option<Totals>
     requires { from + 4 * entries ≤ length bytes.now }
     ensures { result ≡ totals row_count (entries_at entries from bytes.now) }
 {
@@ -25,7 +25,7 @@ pub(crate) fn add_up(bytes: &[u8], from: usize, entries: usize, row_count: u32) 
     while 0 < left {
         let x = entry_at(bytes, at);
         if !entry_ok(x, low, row_count) {
-            return Totals::Wrong;
+            return None;
         }
         low = x.number as u32 + 1;
         rows = rows + x.rows;
@@ -33,7 +33,7 @@ pub(crate) fn add_up(bytes: &[u8], from: usize, entries: usize, row_count: u32) 
         at += 4;
         left -= 1;
     }
-    Totals::Sums { rows, size }
+    Some(Totals { rows, size })
 }
 
 // Whether an entry may stand behind those of blocks below low.
