@@ -9,8 +9,9 @@ use native.Mathlib.Omega.{arith}
 use lib.ListN.{length}
 use lib.Dec.{ltb}
 use borrow.Author.Tests.{ltb-true, ltb-false}
-use Rattle.std.specs.Prelude.{Ok, Err, Some, None}
+use Rattle.std.specs.Prelude.{Result, Ok, Err, Some, None}
 use Rattle.std.specs.Prelude.{Option as Maybe}
+use Rattle.std.specs.Result.{result_ok}
 use Rattle.spec.specs.declared.Entry.{Entry}
 use Rattle.spec.specs.declared.Refusal.{Refusal}
 use Rattle.spec.specs.Reading as R
@@ -90,83 +91,69 @@ right_sums count t es e =
     (o, ap (λ t. t.rows) s ∙ zero-add (row_sum es), ap (λ t. t.size) s ∙ zero-add (data_sizes es)))
     (λ o. let r = rw o at e in absurd (let z : ◌≡◌ {A = ℕ} 0 1 = cc in omega arith))
 
--- ---- behind the head: n entries are said to stand before the last two bytes
+-- ---- behind the head
 
 pub entry_count_back : (file : List ℕ) (n : ℕ) → 2 ≤ length file → n ≡ number_in (part (length file - 2) (length file - 2 + 2) file) → n ≡ entry_count file
 entry_count_back file n h e = let l : length file - 2 + 2 ≡ length file = omega arith in e ∙ ap (λ to. number_in (part (length file - 2) to file)) l
 
-pub says_overlap : (file : List ℕ) (h : R.Head) (n : ℕ) → Headed file h → n ≡ entry_count file → length file < h.start + 4 * n + 2 → refused 6 ≡ judged (verdict file)
-says_overlap file h n hd q l = rw (overlap_6 file h hd.read hd.unpadded hd.limited (omega (arith, q)))
+pub says_overlap : (file : List ℕ) (h : R.Head) → Headed file h → length file < h.start + 4 * entry_count file + 2 → refused 6 ≡ judged (verdict file)
+says_overlap file h hd l = rw (overlap_6 file h hd.read hd.unpadded hd.limited l)
 
--- they fit behind the row count
-pub record Fitting (file : List ℕ) (h : R.Head) (n : ℕ) : Type 0 where
+-- the entries es fit behind the row count
+pub record Fitting (file : List ℕ) (h : R.Head) (es : List Entry) : Type 0 where
   pub head : Headed file h
-  pub many : n ≡ entry_count file
-  pub room : h.start + 4 * n + 2 ≤ length file
+  pub room : h.start + 4 * entry_count file + 2 ≤ length file
+  pub all : es ≡ entries_of file
 
-module _ {file : List ℕ} {h : R.Head} {n : ℕ} (f : Fitting file h n) where
-  fits : h.start + 4 * entry_count file + 2 ≤ length file
-  fits = omega (arith, f.many, f.room)
+pub fitting : {file : List ℕ} {head : Head} {es : List Entry} → head_of file ≡ Ok head → head.start + 4 * entry_count file + 2 ≤ length file → es ≡ entries_of file
+    → Fitting file (count_read head) es
+fitting {file} {head} e l a = record { head = headed file head e; room = l; all = a }
 
-  same : entries_at n (length file - 2 - 4 * n) file ≡ entries_of file
-  same = ap (λ k. entries_at k (length file - 2 - 4 * k) file) f.many
-
-  pub says_wrong : None ≡ totals h.count (entries_at n (length file - 2 - 4 * n) file) → refused 6 ≡ judged (verdict file)
-  says_wrong t =
-      let d = f.head in rw (entries_6 file h d.read d.unpadded d.limited fits (wrong_entries h.count (entries_of file) (rw same at t)))
+pub says_wrong : {file : List ℕ} {h : R.Head} {es : List Entry} {e : Refusal} {o : Maybe Totals} {r : Result Totals Refusal} → Fitting file h es
+    → o ≡ result_ok r → r ≡ Err e → o ≡ totals h.count es → refused 6 ≡ judged (verdict file)
+says_wrong {file} {h} f p e q =
+    let d = f.head in
+    rw (entries_6 file h d.read d.unpadded d.limited f.room (wrong_entries h.count (entries_of file) (rw f.all at (sym (p ∙ ap result_ok e) ∙ q))))
 
 -- and they are right, with these sums
-pub record Summed (file : List ℕ) (h : R.Head) (n : ℕ) (t : Totals) : Type 0 where
-  pub fitting : Fitting file h n
-  pub sums : Some t ≡ totals h.count (entries_at n (length file - 2 - 4 * n) file)
+pub record Summed (file : List ℕ) (h : R.Head) (es : List Entry) (t : Totals) : Type 0 where
+  pub fit : Fitting file h es
+  pub right : entries_ok h.count 0 (entries_of file) ≡ true
+  pub rows' : t.rows ≡ row_sum (entries_of file)
+  pub size' : t.size ≡ data_sizes (entries_of file)
 
--- what the row count and the number of entries, as they were read, say of the file
-module _ (file : List ℕ) {head : Head} {n : ℕ} (e : head_of file ≡ Ok head) (q : n ≡ number_in (part (length file - 2) (length file - 2 + 2) file)) where
-  pub counted : n ≡ entry_count file
-  counted = entry_count_back file n (omega (arith, (headed file head e).upto)) q
+pub summed : {file : List ℕ} {h : R.Head} {es : List Entry} {t : Totals} {o : Maybe Totals} {r : Result Totals Refusal} → Fitting file h es
+    → o ≡ result_ok r → r ≡ Ok t → o ≡ totals h.count es → Summed file h es t
+summed {file} {h} {t = t} f p e q =
+    let k = right_sums h.count t (entries_of file) (rw f.all at (sym (p ∙ ap result_ok e) ∙ q)) in
+    record { fit = f; right = k.0; rows' = k.1; size' = k.2 }
 
-  pub fitting : head.start + 4 * n + 2 ≤ length file → Fitting file (count_read head) n
-  fitting l = record { head = headed file head e; many = counted; room = l }
+module _ {file : List ℕ} {h : R.Head} {es : List Entry} {t : Totals} (s : Summed file h es t) where
+  pub says_length : (entry_start file - h.start ≡ t.size → ⊥) → refused 7 ≡ judged (verdict file)
+  says_length k = let d = s.fit.head in rw (length_7 file h d.read d.unpadded d.limited s.fit.room s.right (λ e. k (e ∙ sym s.size')))
 
-  pub summed : {t : Totals} {o : Maybe Totals} → head.start + 4 * n + 2 ≤ length file → o ≡ Some t → o ≡ totals head.row_count (entries_at n (length file - 2 - 4 * n) file)
-      → Summed file (count_read head) n t
-  summed l is o = record { fitting = fitting l; sums = sym is ∙ o }
+  module _ (l : entry_start file - h.start ≡ t.size) where
+    pub data_within : h.start + data_sizes es ≤ length file
+    data_within = rw s.fit.all (omega (arith, l ∙ s.size', s.fit.room))
 
-module _ {file : List ℕ} {h : R.Head} {n : ℕ} {t : Totals} (s : Summed file h n t) where
-  right : (entries_ok h.count 0 (entries_of file) ≡ true) × (t.rows ≡ row_sum (entries_of file)) × (t.size ≡ data_sizes (entries_of file))
-  right = right_sums h.count t (entries_of file) (rw (same s.fitting) at s.sums)
-
-  pub says_length : (length file - 2 - 4 * n - h.start ≡ t.size → ⊥) → refused 7 ≡ judged (verdict file)
-  says_length k =
-      let d = s.fitting.head in
-      rw (length_7 file h d.read d.unpadded d.limited (fits s.fitting) right.0 (λ e. k (omega (arith, s.fitting.many, right.2))))
-
-  module _ (l : length file - 2 - 4 * n - h.start ≡ t.size) where
-    sizes : entry_start file - h.start ≡ data_sizes (entries_of file)
-    sizes = omega (arith, s.fitting.many, right.2)
-
-    pub data_within : h.start + data_sizes (entries_at n (length file - 2 - 4 * n) file) ≤ length file
-    data_within = rw (same s.fitting) (omega (arith, right.2, s.fitting.room))
-
-    module _ (ok : Bool) (k : ok ≡ contents_ok h.count (entries_at n (length file - 2 - 4 * n) file) h.start file) where
+    module _ (ok : Bool) (k : ok ≡ contents_ok h.count es h.start file) where
       contents : contents_ok h.count (entries_of file) h.start file ≡ ok
-      contents = sym (rw (same s.fitting) at k)
+      contents = sym (rw s.fit.all at k)
 
       pub says_content : ok ≡ false → refused 8 ≡ judged (verdict file)
-      says_content o =
-          let d = s.fitting.head in rw (content_8 file h d.read d.unpadded d.limited (fits s.fitting) right.0 sizes (contents ∙ o))
+      says_content o = let d = s.fit.head in rw (content_8 file h d.read d.unpadded d.limited s.fit.room s.right (l ∙ s.size') (contents ∙ o))
 
       pub says_record : ok ≡ true → value (record { row_count = h.count; populated = t.rows; data_start = h.start }) ≡ judged (verdict file)
       says_record o =
-          let d = s.fitting.head in
+          let d = s.fit.head in
           let many : t.rows ≡ length (rows_of (blocks_at (entries_of file) h.start file)) =
-          right.1 ∙ sym (contents_many h.count h.start file (entries_of file) (contents ∙ o)) in
+          s.rows' ∙ sym (contents_many h.count h.start file (entries_of file) (contents ∙ o)) in
           rw (passed_holds file h d.read (record {
             unpadded = d.unpadded;
             limited = d.limited;
-            fits = fits s.fitting;
-            entries = right.0;
-            sizes = sizes;
+            fits = s.fit.room;
+            entries = s.right;
+            sizes = l ∙ s.size';
             contents = contents ∙ o;
           }))
           (ap (λ n. value (record { row_count = h.count; populated = n; data_start = h.start })) many)

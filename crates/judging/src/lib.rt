@@ -26,23 +26,22 @@ fn judge_blocks(bytes: &[u8], head: Head) -> Opened
     requires { head_of bytes.now ≡ Ok head }
     ensures { opened result ≡ judged (verdict bytes.now) }
 {
-    let end = bytes.len() - 2;
-    let number = words::le::u16_at(bytes, end) as usize;
+    let number = entries::count(bytes) as usize;
     if bytes.len() < head.start + 4 * number + 2 {
         return Err(Refusal::Entries);
     }
-    let from = end - 4 * number;
-    let totals = entries::add_up(bytes, from, number, head.row_count).ok_or(Refusal::Entries)?;
+    let table = entries::table(bytes);
+    let totals = entries::add_up(table, head.row_count).ok_or(Refusal::Entries)?;
+    let from = bytes.len() - 2 - 4 * number;
     if from - head.start != totals.size {
         return Err(Refusal::Length);
     }
-    if !contents::all_ok(bytes, head.start, from, number, head.row_count) {
+    if !contents::all_ok(bytes, head, table) {
         return Err(Refusal::Content);
     }
-    let data_start = head.start as u32;
     Ok(Record {
         row_count: head.row_count,
         populated: totals.rows,
-        data_start,
+        data_start: head.start as u32,
     })
 }
