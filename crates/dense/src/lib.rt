@@ -16,7 +16,7 @@ pub type Data = [u8; 10240];
 
 // A part as a dense block's data: 5,119 places, the most of a sparse block, take 10,238 bytes.
 pub fn data(part: &[u8]) -> Option<&Data>
-    ensures { MatchOption result (length part.now ≡ 10240 → ⊥) (λ d. d.now ≡ part.now) }
+    ensures { MatchOption result (length part.now ≡ 10240 → ⊥) (λ d. (d.now ≡ part.now) × (length part.now ≡ 10240)) }
 {
     part.as_array()
 }

@@ -5,14 +5,15 @@ use mathlib.Core.Bool.{Bool, true, false, ◌&&◌, cond}
 use mathlib.Core.List.{List, [], ◌∷◌, map, flat_map}
 use native.Mathlib.Omega.{arith}
 use lib.ListN.{length, get_or, length-append, length-map}
-use lib.Dec.{eqb}
-use borrow.Author.Tests.{eqb-true}
+use lib.Dec.{eqb, ltb}
+use borrow.Author.Tests.{eqb-true, ltb-true, ltb-false}
 use Rattle.std.proofs.lemmas.List.{at_drop_all}
 use Rattle.spec.specs.declared.Entry.{Entry}
 use Rattle.spec.specs.Set.{rising}
 use Rattle.spec.specs.Layout.{size, dense, rows_of}
 use Rattle.spec.specs.Reading.{rows_at, part, entry_in, size_of_data, data_sizes, places_in, counts_ok, is_content, contents_ok, blocks_at}
-use Rattle.spec.proofs.Tests.{and_true}
+use Rattle.spec.proofs.Content.{size_sparse}
+use Rattle.spec.proofs.Tests.{and_true, by_test}
 use Rattle.judging.specs.Phases.{row_sum}
 use Rattle.judging.proofs.TableLaws.{left, left_some}
 
@@ -69,3 +70,8 @@ contents_many count at file (x ∷ es) e =
     length-append (map (λ p. x.number * size + p) ps) (rows_of (blocks_at es (at + size_of_data x.rows) file))
     ∙ ap₂ (λ a b. a + b) (length-map ps (λ p. x.number * size + p) ∙ content_many x.rows (rows_at count x.number) bs p.0)
     (contents_many count (at + size_of_data x.rows) file es p.1)
+
+-- 10,240 bytes are the data of 5,120 rows at least
+pub dense_rows : (n : ℕ) → size_of_data n ≡ 10240 → 5120 ≤ n
+dense_rows n e =
+    by_test (ltb n 5120) (λ t. let few = ltb-true n 5120 t in absurd (omega (arith, size_sparse n few))) (λ t. ltb-false n 5120 t)

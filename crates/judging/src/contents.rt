@@ -22,14 +22,13 @@ pub(crate) fn all_ok(bytes: &[u8], head: Head, table: &[[u8; 4]]) -> bool
     true
 }
 
-// One block's: sparse or dense by the number of rows in it.
+// One block's: dense or sparse by its length.
 fn content_ok(part: &[u8], rows: u32, end: u32) -> bool
     requires { (length part.now ≡ size_of_data rows) × (end ≤ 65536) }
     ensures { result ≡ is_content rows end part.now }
 {
-    if rows < 5120 {
-        sparse::content_ok(part, rows, end)
-    } else {
-        dense::content_ok(part, rows, end)
+    match dense::data(part) {
+        Some(data) => dense::content_ok(data, rows, end),
+        None => sparse::content_ok(part, rows, end),
     }
 }
