@@ -36,7 +36,8 @@ module _ (s : List ℕ) (from at to : Bytes) (e : iter_rest (take_source (enumer
       let h : length xs < 5 = omega (arith, length-take 5 s, few) in
       let l : length xs < length s = omega (arith, length-take 5 s, few) in
       let q = t.1 ∙ get_or-enumerate_from 0 (take 5 s) (length xs) (p.0, p.1.now) few in
-      (h, l, ap (λ q. q.0) q ∙ zero-add (length xs), ap (λ q. q.1) q ∙ get_or-take 5 s (length xs) p.1.now h ∙ get_or_default_zero s (length xs) p.1.now l)
+      let byte = ap (λ q. q.1) q ∙ get_or-take 5 s (length xs) p.1.now h ∙ get_or_default_zero s (length xs) p.1.now l in
+      (h, l, ap (λ q. q.0) q ∙ zero-add (length xs), byte)
 
   -- it has come to all
   turned : r ≡ None → length xs ≡ min 5 (length s)
@@ -44,18 +45,26 @@ module _ (s : List ℕ) (from at to : Bytes) (e : iter_rest (take_source (enumer
 
 pub returns-then-b-eq128 : goal.returns-then-b-eq128
 returns-then-b-eq128 c =
-    let t = turn c.args.s.now _ _ _ (cc) (cc) (cc) c.loop-i.yielded c.loop-i.yielded_by _ c.next.ensures.steps (c.in-Some.i, c.in-Some.byte) c.in-Some.is in
-    last_padded c.loop-i.invariant t (omega arith) (omega arith) (omega arith) (omega arith)
+    let l = c.loop-i in
+    let x = c.in-Some in
+    let t = turn c.args.s.now _ _ _ (cc) (cc) (cc) l.yielded l.yielded_by _ c.next.ensures.steps (x.i, x.byte) x.is in
+    last_padded l.invariant t (omega arith) (omega arith) (omega arith) (omega arith)
 
 pub returns-then-b-ge128 : goal.returns-then-b-ge128
 returns-then-b-ge128 c =
-    let t = turn c.args.s.now _ _ _ (cc) (cc) (cc) c.loop-i.yielded c.loop-i.yielded_by _ c.next.ensures.steps (c.in-Some.i, c.in-Some.byte) c.in-Some.is in
-    last_good c.loop-i.invariant t (omega arith) (omega arith) (λ m e. omega arith)
+    let l = c.loop-i in
+    let x = c.in-Some in
+    let t = turn c.args.s.now _ _ _ (cc) (cc) (cc) l.yielded l.yielded_by _ c.next.ensures.steps (x.i, x.byte) x.is in
+    last_good l.invariant t (omega arith) (omega arith) (λ m e. omega arith)
 
 pub loop-i-preserved : goal.loop-i-preserved
 loop-i-preserved c =
-    let t = turn c.args.s.now _ _ _ (cc) (cc) (cc) c.loop-i.yielded c.loop-i.yielded_by _ c.next.ensures.steps (c.in-Some.i, c.in-Some.byte) c.in-Some.is in
-    rw (length_push c.loop-i.yielded (c.in-Some.i, c.in-Some.byte)) (more c.loop-i.invariant t (omega arith))
+    let l = c.loop-i in
+    let x = c.in-Some in
+    let t = turn c.args.s.now _ _ _ (cc) (cc) (cc) l.yielded l.yielded_by _ c.next.ensures.steps (x.i, x.byte) x.is in
+    rw (length_push l.yielded (x.i, x.byte)) (more l.invariant t (omega arith))
 
 pub returns : goal.returns
-returns c = ended c.loop-i.invariant (turned c.args.s.now _ _ _ (cc) (cc) (cc) c.loop-i.yielded c.loop-i.yielded_by _ c.next.ensures.steps c.in-None.is)
+returns c =
+    let l = c.loop-i in
+    ended l.invariant (turned c.args.s.now _ _ _ (cc) (cc) (cc) l.yielded l.yielded_by _ c.next.ensures.steps c.in-None.is)

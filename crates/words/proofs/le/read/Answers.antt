@@ -1,4 +1,4 @@
-use Rattle.std.proofs.Common.{ℕ, ◌+◌, ◌-◌, ◌*◌, ◌^◌, ◌<◌, ◌≤◌, ◌≡◌, ◌∙◌, ap, suc, length, get_or, List, arith, Iter, Bor, Option, Some}
+use Rattle.std.proofs.Common.{ℕ, ◌+◌, ◌-◌, ◌*◌, ◌^◌, ◌<◌, ◌≤◌, ◌≡◌, ◌∙◌, ap, suc, length, get_or, reverse, List, arith, Iter, Bor, Option, Some}
 use Rattle.std.specs.declared.iter.Rev.{Rev}
 use Rattle.std.specs.Iterator.{Yields}
 use Rattle.std.specs.Iterator.Adapters.{rev_source, rev_steps}
@@ -22,14 +22,16 @@ module _ (s : List ℕ) (i w n : ℕ) (h : (w ≤ 8) × (i + w ≤ length s)) (f
   long : length (part i (i + w) s) ≡ w
   long = length_part i (i + w) s (omega arith) h.1 ∙ omega arith
 
+  given : (length xs < length (reverse (part i (i + w) s))) × (p.now ≡ get_or (reverse (part i (i + w) s)) (length xs) p.now)
+  given = YieldsList-turn (YieldsList-from_rev_slice (part i (i + w) s) e) xs at y r to p is next
+
   more : length xs < w
-  more = omega (arith, (YieldsList-turn (YieldsList-from_rev_slice (part i (i + w) s) e) xs at y r to p is next).0, length-reverse (part i (i + w) s), long)
+  more = omega (arith, given.0, length-reverse (part i (i + w) s), long)
 
   byte : p.now ≡ get_or s (i + (w - (length xs + 1))) 0
   byte =
       let back : length (part i (i + w) s) - 1 - length xs ≡ w - (length xs + 1) = omega (arith, long) in
-      (YieldsList-turn (YieldsList-from_rev_slice (part i (i + w) s) e) xs at y r to p is next).1
-      ∙ get_or-reverse (part i (i + w) s) (length xs) p.now (omega (arith, more, long)) ∙ ap (λ k. get_or (part i (i + w) s) k p.now) back
+      given.1 ∙ get_or-reverse (part i (i + w) s) (length xs) p.now (omega (arith, more, long)) ∙ ap (λ k. get_or (part i (i + w) s) k p.now) back
       ∙ get_or_default_zero (part i (i + w) s) (w - (length xs + 1)) p.now (omega (arith, more, long))
       ∙ get_or_part i (i + w) s (w - (length xs + 1)) (omega (arith, more))
 
@@ -49,19 +51,32 @@ loop-byte-init c = (omega arith, rw (part_none (c.args.i + (c.args.w - 0)) (c.ar
 pub overflow_mul-n : goal.overflow_mul-n
 unfolding part
 overflow_mul-n c =
-    omega (arith, fits c.args.s.now c.args.i c.args.w _ c.requires _ _ _ (cc) _ c.loop-byte.yielded_by _ c.next.ensures.steps c.in-Some.byte c.in-Some.is c.loop-byte.invariant.1 (λ k. (c.type_inv.s k).fits))
+    let a = c.args in
+    let l = c.loop-byte in
+    let x = c.in-Some in
+    omega (
+      arith,
+      fits a.s.now a.i a.w l.n c.requires _ _ _ (cc) _ l.yielded_by _ c.next.ensures.steps x.byte x.is l.invariant.1 (λ k. (c.type_inv.s k).fits),
+    )
 
 pub overflow_add-n : goal.overflow_add-n
 unfolding part
 overflow_add-n c =
-    omega (arith, fits c.args.s.now c.args.i c.args.w _ c.requires _ _ _ (cc) _ c.loop-byte.yielded_by _ c.next.ensures.steps c.in-Some.byte c.in-Some.is c.loop-byte.invariant.1 (λ k. (c.type_inv.s k).fits))
+    let a = c.args in
+    let l = c.loop-byte in
+    let x = c.in-Some in
+    omega (
+      arith,
+      fits a.s.now a.i a.w l.n c.requires _ _ _ (cc) _ l.yielded_by _ c.next.ensures.steps x.byte x.is l.invariant.1 (λ k. (c.type_inv.s k).fits),
+    )
 
 pub loop-byte-preserved : goal.loop-byte-preserved
 unfolding part
 loop-byte-preserved c =
     let a = c.args in
     let l = c.loop-byte in
-    rw (length_push l.yielded c.in-Some.byte) (
-      omega (arith, more a.s.now a.i a.w l.n c.requires _ _ _ (cc) l.yielded l.yielded_by _ c.next.ensures.steps c.in-Some.byte c.in-Some.is l.invariant.1),
-      turn a.s.now a.i a.w l.n c.requires _ _ _ (cc) l.yielded l.yielded_by _ c.next.ensures.steps c.in-Some.byte c.in-Some.is l.invariant.1,
+    let x = c.in-Some in
+    rw (length_push l.yielded x.byte) (
+      omega (arith, more a.s.now a.i a.w l.n c.requires _ _ _ (cc) l.yielded l.yielded_by _ c.next.ensures.steps x.byte x.is l.invariant.1),
+      turn a.s.now a.i a.w l.n c.requires _ _ _ (cc) l.yielded l.yielded_by _ c.next.ensures.steps x.byte x.is l.invariant.1,
     )
