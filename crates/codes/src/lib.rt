@@ -1,10 +1,11 @@
 // The numbers of the answers: a refusal's, and the one 64-bit number by which a C call gives an answer.
 #![tactic(auto)]
 
-ghost use Rattle.std.specs.Prelude.{◌≡◌, ◌+◌};
-ghost use Rattle.spec.specs.Answers.{number, answered, numbered, found, code};
+ghost use Rattle.std.specs.Prelude.{◌≡◌, refl, ℕ, Result, Ok, Err};
+ghost use Rattle.spec.specs.declared.Refusal.{Refusal};
+ghost use Rattle.spec.specs.Answers.{Said, refused, number, answered, numbered, found, code};
 
-use spec::{Answer, Found, Number, Refusal};
+use spec::Refusal;
 
 // The C calls' number for "none"; a refusal's is this plus its number.
 pub const NONE: u64 = 4294967296;
@@ -16,40 +17,56 @@ pub fn of_refusal(e: Refusal) -> u32
     e as u32
 }
 
-// The C number of yes, which is 1, of no, which is 0, or of a refusal.
-pub fn of_answer(a: Answer) -> u64
-    ensures { result ≡ code (answered a) }
-{
-    match a {
-        Ok(b) => b as u64,
-        Err(e) => refused(e),
+// What a call answers where it doesn't refuse.
+pub trait Value {
+    // What an answer with such a value says.
+    ghost says: { Result Self Refusal → Said ℕ };
+
+    // The C number of a value.
+    fn code(self) -> u64
+        ensures { result ≡ code (says (Ok self)) };
+
+    // A refusal says its number, whatever the type of the values.
+    ghost refusals: { (e : Refusal) → says (Err e) ≡ refused (number e) };
+}
+
+// 1 for yes, 0 for no.
+impl Value for bool {
+    ghost says = { answered };
+
+    ghost refusals = { λ e. refl };
+
+    fn code(self) -> u64 {
+        self as u64
     }
 }
 
-// The C number of a number or a refusal.
-pub fn of_number(a: Number) -> u64
-    ensures { result ≡ code (numbered a) }
-{
-    match a {
-        Ok(v) => v as u64,
-        Err(e) => refused(e),
+impl Value for u32 {
+    ghost says = { numbered };
+
+    ghost refusals = { λ e. refl };
+
+    fn code(self) -> u64 {
+        u64::from(self)
     }
 }
 
-// The C number of a number, "none", or a refusal.
-pub fn of_found(a: Found) -> u64
-    ensures { result ≡ code (found a) }
-{
-    match a {
-        Ok(Some(v)) => v as u64,
-        Ok(None) => NONE,
-        Err(e) => refused(e),
+impl Value for Option<u32> {
+    ghost says = { found };
+
+    ghost refusals = { λ e. refl };
+
+    fn code(self) -> u64 {
+        self.map_or(NONE, u64::from)
     }
 }
 
-// The C number of a refusal.
-fn refused(e: Refusal) -> u64
-    ensures { result ≡ 4294967296 + number e }
+// The C number of an answer.
+pub fn of_answer<T: Value>(a: Result<T, Refusal>) -> u64
+    ensures { result ≡ code (T.says a) }
 {
-    NONE + of_refusal(e) as u64
+    match a {
+        Ok(v) => v.code(),
+        Err(e) => NONE + of_refusal(e) as u64,
+    }
 }

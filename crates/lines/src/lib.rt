@@ -1,99 +1,72 @@
 // A case's line: its name, what came, and whether that is what is due.
 #![tactic(auto)]
 
-ghost use Rattle.std.specs.Prelude.{◌≡◌, true};
-
-use codes::NONE;
+use spec::Refusal;
+use std::fmt::{self, Display, Formatter};
 use std::io;
 
-// Prints the line of an answer, which is given by its C number: a value, "none", or a refusal.
-pub fn answer(rt: &impl Print, name: &[u8], came: u64, due: u64) -> io::Result<()> {
-    begin(rt, name)?;
-    if came < NONE {
-        print(rt, came)?;
-    } else if came == NONE {
-        rt.write_all(b" none")?;
-    } else {
-        rt.write_all(b" refused")?;
-        print(rt, came - NONE)?;
-    }
-    end(rt, came == due)
+// Prints the line. The verdict is what makes a run fail: the stored output has no WRONG.
+pub fn line<T: Display + PartialEq + Copy>(
+    rt: &impl Print,
+    name: &str,
+    came: T,
+    due: T,
+) -> io::Result<()> {
+    let verdict = if came == due { "ok" } else { "WRONG" };
+    println!(rt; "{name}: {came} {verdict}")
 }
 
-// Prints the line of a plain number.
-pub fn number(rt: &impl Print, name: &[u8], came: u64, due: u64) -> io::Result<()> {
-    begin(rt, name)?;
-    print(rt, came)?;
-    end(rt, came == due)
-}
+// What a call answers: a value, or a refusal, which prints its number.
+#[derive(Clone, Copy, PartialEq)]
+pub struct Answer<T>(pub Result<T, Refusal>);
 
-// Prints the line of a list.
-pub fn list(rt: &impl Print, name: &[u8], came: &[u32], due: &[u32]) -> io::Result<()> {
-    begin(rt, name)?;
-    print_all(rt, came)?;
-    end(rt, same(came, due))
-}
-
-// Prints the line of bytes.
-pub fn bytes(rt: &impl Print, name: &[u8], came: &[u8], due: &[u8]) -> io::Result<()> {
-    begin(rt, name)?;
-    print_bytes(rt, came)?;
-    end(rt, check::same(came, due))
-}
-
-// Prints the name.
-fn begin(rt: &impl Print, name: &[u8]) -> io::Result<()> {
-    rt.write_all(name)?;
-    rt.write_all(b":")
-}
-
-// Prints the verdict, which is what makes a run fail: the stored output has no WRONG.
-fn end(rt: &impl Print, is_right: bool) -> io::Result<()> {
-    if is_right {
-        rt.write_all(b" ok\n")
-    } else {
-        rt.write_all(b" WRONG\n")
-    }
-}
-
-// Prints a number after a space.
-fn print(rt: &impl Print, n: u64) -> io::Result<()> {
-    print!(rt; " {n}")
-}
-
-// Prints the numbers of a list, each after a space.
-fn print_all(rt: &impl Print, numbers: &[u32]) -> io::Result<()> {
-    for n in numbers {
-        print(rt, *n as u64)?;
-    }
-    Ok(())
-}
-
-// Prints bytes in hex, each after a space.
-fn print_bytes(rt: &impl Print, bytes: &[u8]) -> io::Result<()> {
-    for b in bytes {
-        print_byte(rt, *b)?;
-    }
-    Ok(())
-}
-
-fn print_byte(rt: &impl Print, b: u8) -> io::Result<()> {
-    print!(rt; " {b:02x}")
-}
-
-// Whether two lists are the same.
-fn same(a: &[u32], b: &[u32]) -> bool
-    ensures { (result ≡ true → a.now ≡ b.now) × (a.now ≡ b.now → result ≡ true) }
-{
-    if a.len() != b.len() {
-        return false;
-    }
-    let mut i = 0;
-    while i < a.len() {
-        if a[i] != b[i] {
-            return false;
+impl<T: Display> Display for Answer<T> {
+    fn fmt<W: fmt::Write>(&self, f: &mut Formatter<W>) -> fmt::Result {
+        match &self.0 {
+            Ok(v) => write!(f, "{v}"),
+            Err(e) => write!(f, "refused {}", codes::of_refusal(*e)),
         }
-        i += 1;
     }
-    true
+}
+
+// What is looked for, if it is there.
+#[derive(Clone, Copy, PartialEq)]
+pub struct OrNone<T>(pub Option<T>);
+
+impl<T: Display> Display for OrNone<T> {
+    fn fmt<W: fmt::Write>(&self, f: &mut Formatter<W>) -> fmt::Result {
+        match &self.0 {
+            Some(v) => write!(f, "{v}"),
+            None => f.write_str("none"),
+        }
+    }
+}
+
+// Numbers, with a space between.
+#[derive(Clone, Copy, PartialEq)]
+pub struct List<'a>(pub &'a [u32]);
+
+impl Display for List<'_> {
+    fn fmt<W: fmt::Write>(&self, f: &mut Formatter<W>) -> fmt::Result {
+        for (i, n) in self.0.iter().enumerate() {
+            let space = if i == 0 { "" } else { " " };
+            write!(f, "{space}{n}")?;
+        }
+        Ok(())
+    }
+}
+
+// Bytes in hex, with a space between.
+#[derive(Clone, Copy, PartialEq)]
+pub struct Bytes<'a>(pub &'a [u8]);
+
+impl Display for Bytes<'_> {
+    // A loop of its own: a format is no parameter.
+    fn fmt<W: fmt::Write>(&self, f: &mut Formatter<W>) -> fmt::Result {
+        for (i, b) in self.0.iter().enumerate() {
+            let space = if i == 0 { "" } else { " " };
+            write!(f, "{space}{b:02x}")?;
+        }
+        Ok(())
+    }
 }
