@@ -1,2 +1,2 @@
+pub mod IndexLaws
 pub mod MemberLaws
-pub mod AnswerLaws

@@ -7,37 +7,34 @@ ghost use Rattle.spec.specs.Set.{contains, rank, lookup, select, next};
 ghost use Rattle.spec.specs.Layout.{size};
 ghost use Rattle.words.specs.Part.{Of, placed, Inside, NeverFalls, InBlock, Batched, Paged};
 
-// 1,024 mini-blocks of ten bytes.
-const DENSE: usize = 10240;
-
 // Whether a place is in the block.
 pub fn contains(part: &[u8], place: u16) -> bool
     ensures { Of part.now (λ ps. result ≡ contains place ps) }
 {
-    if part.len() == DENSE {
-        return dense::contains(part, place);
+    match dense::data(part) {
+        Some(data) => dense::contains(data, place),
+        None => sparse::contains(part, place),
     }
-    sparse::contains(part, place)
 }
 
 // How many of the block's places are below a place.
 pub fn rank(part: &[u8], place: u16) -> u32
     ensures { Of part.now (λ ps. result ≡ rank place ps) }
 {
-    if part.len() == DENSE {
-        return dense::rank(part, place);
+    match dense::data(part) {
+        Some(data) => dense::rank(data, place),
+        None => sparse::rank(part, place),
     }
-    sparse::rank(part, place)
 }
 
 // The rank of a place, if it is in the block.
 pub fn lookup(part: &[u8], place: u16) -> Option<u32>
     ensures { Of part.now (λ ps. placed result ≡ lookup place ps) }
 {
-    if part.len() == DENSE {
-        return dense::lookup(part, place);
+    match dense::data(part) {
+        Some(data) => dense::lookup(data, place),
+        None => sparse::lookup(part, place),
     }
-    sparse::lookup(part, place)
 }
 
 // The place with k of the block's places below it; 0 where there is none.
@@ -45,10 +42,10 @@ pub fn select(part: &[u8], k: u32) -> u32
     ensures inside { result < size }
     ensures exact { Of part.now (λ ps. result ≡ select k ps) }
 {
-    if part.len() == DENSE {
-        return dense::select(part, k);
+    match dense::data(part) {
+        Some(data) => dense::select(data, k),
+        None => sparse::select(part, k),
     }
-    sparse::select(part, k)
 }
 
 // The first place of the block at or after a place.
@@ -56,10 +53,10 @@ pub fn next(part: &[u8], place: u16) -> Option<u32>
     ensures inside { Inside result }
     ensures exact { Of part.now (λ ps. placed result ≡ next place ps) }
 {
-    if part.len() == DENSE {
-        return dense::next(part, place);
+    match dense::data(part) {
+        Some(data) => dense::next(data, place),
+        None => sparse::next(part, place),
     }
-    sparse::next(part, place)
 }
 
 // Questions that never fall, rows of the block that begins at row base: hits go to the front of rows, their ranks, counted on from
@@ -77,10 +74,10 @@ pub fn batch(
     requires room { (length questions.now ≤ length rows.old) × (length questions.now ≤ length ranks.old) }
     ensures { Batched part.now questions.now base first rows.old ranks.old rows.new ranks.new result }
 {
-    if part.len() == DENSE {
-        return dense::batch(part, questions, base, first, rows, ranks);
+    match dense::data(part) {
+        Some(data) => dense::batch(data, questions, base, first, rows, ranks),
+        None => sparse::batch(part, questions, base, first, rows, ranks),
     }
-    sparse::batch(part, questions, base, first, rows, ranks)
 }
 
 // Fills out with the rows of the block that begins at row base, from that with `from` rows of the block below it on.
@@ -88,9 +85,8 @@ pub fn page(part: &[u8], base: u32, from: u32, out: &mut [u32])
     requires { base + 65536 ≤ 2 ^ 32 }
     ensures { Paged part.now base from out.old out.new }
 {
-    if part.len() == DENSE {
-        dense::page(part, base, from, out);
-        return;
+    match dense::data(part) {
+        Some(data) => dense::page(data, base, from, out),
+        None => sparse::page(part, base, from, out),
     }
-    sparse::page(part, base, from, out);
 }

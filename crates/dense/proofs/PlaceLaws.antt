@@ -1,5 +1,5 @@
 -- The places of a block and the words of its mini-blocks: each question of a place is one of its word.
-use Rattle.std.proofs.Common.{◌≡◌, ℕ, zero, suc, ◌+◌, ◌-◌, ◌*◌, ◌/◌, ◌%◌, ◌^◌, ◌<◌, ◌≤◌, Bool, true, false, cond, eqb, ltb, List, length, sym, refl, ap, ◌∙◌, add-zero, div-one, arith, ltb-false, ltb-true, lt-ltb}
+use Rattle.std.proofs.Common.{◌≡◌, ℕ, zero, suc, ◌+◌, ◌-◌, ◌*◌, ◌/◌, ◌%◌, ◌^◌, ◌<◌, ◌≤◌, Bool, true, false, eqb, ltb, List, length, sym, refl, ap, ◌∙◌, add-zero, div-one, arith, ltb-false, ltb-true, lt-ltb}
 use mathlib.Core.Option.{some, none}
 use lib.Count.{ones}
 use Rattle.spec.specs.Set.{bit, contains, rank, select, next}
@@ -9,7 +9,6 @@ use Rattle.spec.proofs.Tests.{by_test}
 use Rattle.spec.proofs.Rising.{Rising, rising_between}
 use Rattle.spec.proofs.Questions.{contains_member, member_contains, rank_is, rank_le, rank_low, rank_all, rank_select, rank_after, rank_below, rank_above, rank_lt, select_rank, next_select}
 use Rattle.spec.proofs.Words.{word_lt, bits_rising}
-use Rattle.mini.specs.Bits.{or_none}
 use Rattle.mini.proofs.BitLaws.{half_pow, contains_bit, length_bits}
 
 -- ---- strictly increasing lists
@@ -99,7 +98,7 @@ module _ (ps : List ℕ) (r : Rising 0 size ps) (m : ℕ) where
       sym (select_rank 0 size ps r (64 * m + q) there) ∙ ap (λ n. select n ps) below
 
   -- the first place at or after one of them
-  next_found : (n a : ℕ) → n ≤ 64 → next n (bits 64 0 (word m ps)) ≡ some a → next (64 * m + n) ps ≡ some (64 * m + a)
+  pub next_found : (n a : ℕ) → n ≤ 64 → next n (bits 64 0 (word m ps)) ≡ some a → next (64 * m + n) ps ≡ some (64 * m + a)
   next_found n a h e =
       by_test (ltb (rank n B) (length B))
       (λ q.
@@ -114,15 +113,9 @@ module _ (ps : List ℕ) (r : Rising 0 size ps) (m : ℕ) where
       (λ q. let z : ◌≡◌ {A = ℕ} 0 1 = cc (next_select 0 64 B rises n) in absurd (omega arith))
 
   -- if there is none, the first of the mini-blocks behind
-  next_none : (n : ℕ) → n ≤ 64 → next n (bits 64 0 (word m ps)) ≡ none → next (64 * m + n) ps ≡ next (64 * (m + 1)) ps
+  pub next_none : (n : ℕ) → n ≤ 64 → next n (bits 64 0 (word m ps)) ≡ none → next (64 * m + n) ps ≡ next (64 * (m + 1)) ps
   next_none n h e =
       by_test (ltb (rank n B) (length B)) (λ q. let z : ◌≡◌ {A = ℕ} 0 1 = cc (next_select 0 64 B rises n) in absurd (omega arith))
       (λ q.
       next_same (64 * m + n) (64 * (m + 1)) 0 size ps r
       (omega (arith, rank_place n h, rank_next, rank_le n B, ltb-false (rank n B) (length B) q)))
-
-  -- so of what next says of its word
-  pub next_place : (n a : ℕ) → n ≤ 64 → or_none a ≡ next n (bits 64 0 (word m ps))
-      → next (64 * m + n) ps ≡ cond (ltb a 64) (some (64 * m + a)) (next (64 * (m + 1)) ps)
-  next_place n a h e =
-      by_test (ltb a 64) (λ t. rw t (next_found n a h (sym e ∙ rw t))) (λ t. rw t (next_none n h (sym e ∙ rw t)))

@@ -6,7 +6,10 @@ use Rattle.spec.specs.Layout.{size, word}
 use Rattle.spec.specs.Reading.{number_in, part, bits, count_at}
 use Rattle.spec.proofs.Tests.{by_test}
 use Rattle.spec.proofs.Questions.{rank_low, rank_all, rank_mono, select_past}
+use Rattle.spec.proofs.Rising.{rising_between}
+use Rattle.spec.proofs.Words.{bits_rising}
 use Rattle.words.specs.Part.{Holds, Of}
+use Rattle.mini.proofs.BitLaws.{length_bits}
 use Rattle.mini.specs.Mini.{MiniAt}
 use Rattle.dense.specs.Mini.{LastMini}
 use Rattle.mini.specs.declared.DenseMiniBlock.{DenseMiniBlock}
@@ -75,6 +78,10 @@ module _ {bs : List ℕ} {k base left : ℕ} (long : length bs ≡ 10240) (a : A
       (omega (arith, a.within, a.some), λ ps h. ((a.exact ps h).0, λ l. rw (ap (λ n. rank (64 * n) ps) (sym one)) ((a.exact ps h).1 l)))
 
 -- ---- what it stores leads to the place
+
+-- a place of a word is below 64
+pub select_lt : {w left : ℕ} → w < 2 ^ 64 → left < ones w → select left (bits 64 0 w) < 64
+select_lt {w} {left} h few = (rising_between left 0 64 (bits 64 0 w) (omega (arith, few, length_bits 64 0 w h)) (bits_rising 64 0 w)).1
 
 module _ {bs ps : List ℕ} {k m left : ℕ} {x : DenseMiniBlock} (long : length bs ≡ 10240) (last : LastMini bs k m) (a : MiniAt bs m x)
     (w : (left + x.rank) % 2 ^ 32 ≡ k) (small : left < 2 ^ 32) (h : Holds bs ps) where

@@ -2,7 +2,7 @@
 // take its part of the file, 10,240 bytes. Of any such bytes they answer something safe, and of a block's data what its places say.
 #![tactic(auto)]
 
-ghost use Rattle.std.specs.Prelude.{◌≡◌, ◌+◌, ◌%◌, ◌^◌, ◌<◌, ◌≤◌, true, map, length};
+ghost use Rattle.std.specs.Prelude.{MatchOption, ◌≡◌, ◌+◌, ◌%◌, ◌^◌, ◌<◌, ◌≤◌, true, map, length};
 ghost use Rattle.spec.specs.Set.{rising, contains, rank, lookup, select, next};
 ghost use Rattle.spec.specs.Layout.{size, dense_data};
 ghost use Rattle.spec.specs.Reading.{is_content};
@@ -11,9 +11,18 @@ ghost use Rattle.dense.specs.Mini.{LastMini};
 
 use mini::bits;
 
+// A dense block's data, as its part of the file has them.
+pub type Data = [u8; 10240];
+
+// A part as a dense block's data: 5,119 places, the most of a sparse block, take 10,238 bytes.
+pub fn data(part: &[u8]) -> Option<&Data>
+    ensures { MatchOption result (length part.now ≡ 10240 → ⊥) (λ d. d.now ≡ part.now) }
+{
+    part.as_array()
+}
+
 // Whether a place is in the block.
-pub fn contains(part: &[u8], place: u16) -> bool
-    requires { length part.now ≡ 10240 }
+pub fn contains(part: &Data, place: u16) -> bool
     ensures { Of part.now (λ ps. result ≡ contains place ps) }
 {
     let word = words::le::read(part, 10 * (place / 64) as usize, 8);
@@ -21,8 +30,7 @@ pub fn contains(part: &[u8], place: u16) -> bool
 }
 
 // How many of the block's places are below a place.
-pub fn rank(part: &[u8], place: u16) -> u32
-    requires { length part.now ≡ 10240 }
+pub fn rank(part: &Data, place: u16) -> u32
     ensures { Of part.now (λ ps. result ≡ rank place ps) }
 {
     let m = mini::mini_block(part, place / 64);
@@ -30,8 +38,7 @@ pub fn rank(part: &[u8], place: u16) -> u32
 }
 
 // The rank of a place, if it is in the block.
-pub fn lookup(part: &[u8], place: u16) -> Option<u32>
-    requires { length part.now ≡ 10240 }
+pub fn lookup(part: &Data, place: u16) -> Option<u32>
     ensures { Of part.now (λ ps. placed result ≡ lookup place ps) }
 {
     let m = mini::mini_block(part, place / 64);
@@ -43,8 +50,7 @@ pub fn lookup(part: &[u8], place: u16) -> Option<u32>
 }
 
 // The last mini-block whose running count is at or below k: empty ones before it share that count.
-fn find_mini(part: &[u8], k: u32) -> u16
-    requires { length part.now ≡ 10240 }
+fn find_mini(part: &Data, k: u32) -> u16
     ensures { LastMini part.now k result }
 {
     let mut base: u16 = 0;
@@ -62,47 +68,42 @@ fn find_mini(part: &[u8], k: u32) -> u16
 }
 
 // The place with k of the block's places below it; 0 where there is none.
-pub fn select(part: &[u8], k: u32) -> u32
-    requires { length part.now ≡ 10240 }
+pub fn select(part: &Data, k: u32) -> u32
     ensures inside { result < size }
     ensures exact { Of part.now (λ ps. result ≡ select k ps) }
 {
     let at = find_mini(part, k);
     let m = mini::mini_block(part, at);
-    let left = std::num::wrapping_sub_u32(k, m.rank as u32);
-    if u64::count_ones(m.bitvec) <= left {
+    let left = k.wrapping_sub(m.rank as u32);
+    if m.bitvec.count_ones() <= left {
         return 0;
     }
     64 * at as u32 + bits::select_u64(m.bitvec, left as u16) as u32
 }
 
 // The first place of the block at or after a place.
-pub fn next(part: &[u8], place: u16) -> Option<u32>
-    requires { length part.now ≡ 10240 }
+pub fn next(part: &Data, place: u16) -> Option<u32>
     ensures inside { Inside result }
     ensures exact { Of part.now (λ ps. placed result ≡ next place ps) }
 {
-    let mut m = place / 64;
-    let mut at = bits::next_u64(words::le::read(part, 10 * m as usize, 8), place % 64);
-    while at == 64 {
-        if m == 1023 {
-            return None;
+    let mut from = place % 64;
+    for m in place / 64..1024 {
+        let word = words::le::read(part, 10 * m as usize, 8);
+        if let Some(at) = bits::next_u64(word, from) {
+            return Some(64 * m as u32 + at as u32);
         }
-        m += 1;
-        at = bits::next_u64(words::le::read(part, 10 * m as usize, 8), 0);
+        from = 0;
     }
-    Some(64 * m as u32 + at as u32)
+    None
 }
 
 // Whether the block's contents are right: running counts, as many bits as the entry says, none at or past the end.
-pub fn content_ok(part: &[u8], rows: u32, end: u32) -> bool
-    requires is_dense { length part.now ≡ 10240 }
-    requires limits { (5120 ≤ rows) × (end ≤ 65536) }
+pub fn content_ok(part: &Data, rows: u32, end: u32) -> bool
+    requires { (5120 ≤ rows) × (end ≤ 65536) }
     ensures { result ≡ is_content rows end part.now }
 {
     let mut seen: u32 = 0;
-    let mut m: u16 = 0;
-    while m < 1024 {
+    for m in 0..1024 {
         let x = mini::mini_block(part, m);
         if x.rank as u32 != seen {
             return false;
@@ -110,8 +111,7 @@ pub fn content_ok(part: &[u8], rows: u32, end: u32) -> bool
         if !bits::none_from(x.bitvec, 64 * m as u32, end) {
             return false;
         }
-        seen = seen + u64::count_ones(x.bitvec);
-        m += 1;
+        seen += x.bitvec.count_ones();
     }
     seen == rows
 }
@@ -126,62 +126,52 @@ pub fn write(rows: &[u32], out: &mut [u8]) -> u16
 {
     let mut before: u16 = 0;
     let mut i = 0;
-    let mut m: u16 = 0;
-    while m < 1023 {
+    for m in 0..1023 {
         let g = mini::gather(rows, i, m);
-        let after = before + u64::count_ones(g.word) as u16;
+        let after = before + g.word.count_ones() as u16;
         mini::put(out, m, before, g.word);
         before = after;
         i = g.next;
-        m += 1;
     }
     let g = mini::gather(rows, i, 1023);
     mini::put(out, 1023, before, g.word);
-    std::num::wrapping_add_u16(before, u64::count_ones(g.word) as u16)
+    before.wrapping_add(g.word.count_ones() as u16)
 }
 
 // Questions that never fall, rows of the block that begins at row base: hits go to the front of rows, their ranks, counted on from
 // first in 32 bits, to the front of ranks; returns their number.
 pub fn batch(
-    part: &[u8],
+    part: &Data,
     questions: &[u32],
     base: u32,
     first: u32,
     rows: &mut [u32],
     ranks: &mut [u32],
 ) -> usize
-    requires is_dense { length part.now ≡ 10240 }
     requires base_fits { base + 65536 ≤ 2 ^ 32 }
     requires never_falls { NeverFalls questions.now × InBlock base questions.now }
     requires room { (length questions.now ≤ length rows.old) × (length questions.now ≤ length ranks.old) }
     ensures { Batched part.now questions.now base first rows.old ranks.old rows.new ranks.new result }
 {
     let mut n = 0;
-    let mut i = 0;
-    while i < questions.len() {
-        let row = questions[i];
-        i += 1;
-        match lookup(part, (row - base) as u16) {
-            Some(at) => {
-                rows[n] = row;
-                ranks[n] = std::num::wrapping_add_u32(first, at);
-                n += 1;
-            }
-            None => {}
+    for row in questions {
+        if let Some(at) = lookup(part, (*row - base) as u16) {
+            rows[n] = *row;
+            ranks[n] = first.wrapping_add(at);
+            n += 1;
         }
     }
     n
 }
 
 // Fills out with the rows of the block that begins at row base, from that with `from` rows of the block below it on.
-pub fn page(part: &[u8], base: u32, from: u32, out: &mut [u32])
-    requires is_dense { length part.now ≡ 10240 }
+pub fn page(part: &Data, base: u32, from: u32, out: &mut [u32])
     requires base_fits { base + 65536 ≤ 2 ^ 32 }
     ensures { Paged part.now base from out.old out.new }
 {
     let mut m = find_mini(part, from);
     let x = mini::mini_block(part, m);
-    let mut word = bits::clear_lowest(x.bitvec, std::num::wrapping_sub_u32(from, x.rank as u32));
+    let mut word = bits::clear_lowest(x.bitvec, from.wrapping_sub(x.rank as u32));
     let mut j = 0;
     while j < out.len() {
         if word == 0 {
@@ -191,7 +181,7 @@ pub fn page(part: &[u8], base: u32, from: u32, out: &mut [u32])
             m += 1;
             word = words::le::read(part, 10 * m as usize, 8);
         } else {
-            out[j] = base + 64 * m as u32 + u64::trailing_zeros(word);
+            out[j] = base + 64 * m as u32 + word.trailing_zeros();
             word = word & (word - 1);
             j += 1;
         }

@@ -8,30 +8,18 @@ ghost use Rattle.directory.specs.Parts.{part_of, Bracket};
 
 use spec::Record;
 
-// 65,535 blocks of 65,536 rows.
-const LIMIT: u32 = 4294901760;
-
 // 10: the record cannot be that of these bytes and this directory.
 pub fn broken(bytes: &[u8], directory: &[u32], record: Record) -> bool
     ensures { result ≡ broken bytes.now directory.now «record» }
 {
-    if LIMIT < record.row_count {
+    if words::block::LIMIT < record.row_count || record.row_count < record.populated {
         return true;
     }
-    if record.row_count < record.populated {
+    if record.data_start < 1 || 5 < record.data_start {
         return true;
     }
     let closing = 2 * words::block::block_count(record.row_count);
-    if directory.len() < closing + 2 {
-        return true;
-    }
-    if directory[closing] != record.populated {
-        return true;
-    }
-    if record.data_start < 1 {
-        return true;
-    }
-    if 5 < record.data_start {
+    if directory.len() < closing + 2 || directory[closing] != record.populated {
         return true;
     }
     bytes.len() < record.data_start as usize + directory[closing + 1] as usize + 2
@@ -44,16 +32,11 @@ pub fn part<'a>(bytes: &'a [u8], directory: &[u32], data_start: u32, block: usiz
 {
     let from = data_start as usize + directory[2 * block + 1] as usize;
     let to = data_start as usize + directory[2 * block + 3] as usize;
-    if to < from {
-        return &bytes[..0];
-    }
-    if bytes.len() < to {
-        return &bytes[..0];
-    }
-    &bytes[from..to]
+    bytes.get(from..to).unwrap_or(&[])
 }
 
 // The last of the first blocks that has at most k rows before it. Empty blocks behind it have more, so they never take the last rank.
+// By halves: std's partition_point, of chunks of two words, jumps on each half, which takes nearly three times as long.
 pub fn find_block(directory: &[u32], blocks: usize, k: u32) -> usize
     requires { (0 < blocks) × (2 * blocks < length directory.now) }
     ensures { Bracket directory.now blocks k result }
@@ -62,14 +45,14 @@ pub fn find_block(directory: &[u32], blocks: usize, k: u32) -> usize
     let mut left = blocks;
     while 1 < left {
         let half = left / 2;
-        base = base + half * not_above(directory[2 * (base + half)], k);
-        left = left - half;
+        base += half * not_above(directory[2 * (base + half)], k);
+        left -= half;
     }
     base
 }
 
-// 1 where a number of rows is not above k, and 0 where it is: by a difference and no test, since nothing foretells which way a test
-// in a search goes.
+// 1 where a number of rows is not above k, and 0 where it is: by a difference, since LLVM makes a jump of usize::from(rows <= k), and
+// nothing foretells in a search which way it goes: about three times as slow.
 fn not_above(rows: u32, k: u32) -> usize
     ensures { result ≡ bit (leb rows k) }
 {

@@ -1,60 +1,54 @@
 -- The contents of blocks, one block after the other, and how many rows right contents have.
-use Prim.Native.Nat.{ℕ, ◌+◌, ◌-◌, ◌*◌, ◌≤◌, ◌<◌}
-use mathlib.Core.Path.{◌≡◌, refl, sym, ap, ap₂, ◌∙◌}
+use Prim.Native.Nat.{ℕ, ◌+◌, ◌*◌, ◌≤◌, ◌<◌}
+use mathlib.Core.Path.{◌≡◌, refl, sym, ap₂, ◌∙◌}
 use mathlib.Core.Bool.{Bool, true, false, ◌&&◌, cond}
 use mathlib.Core.List.{List, [], ◌∷◌, map, flat_map}
-use native.Mathlib.Nat.{add_assoc}
 use native.Mathlib.Omega.{arith}
-use lib.ListN.{length, length-append, length-map}
+use lib.ListN.{length, get_or, length-append, length-map}
 use lib.Dec.{eqb}
 use borrow.Author.Tests.{eqb-true}
+use Rattle.std.proofs.lemmas.List.{at_drop_all}
 use Rattle.spec.specs.declared.Entry.{Entry}
 use Rattle.spec.specs.Set.{rising}
 use Rattle.spec.specs.Layout.{size, dense, rows_of}
-use Rattle.spec.specs.Reading.{rows_at, part, entry_in, entries_at, size_of_data, data_sizes, places_in, counts_ok, is_content, contents_ok, blocks_at}
+use Rattle.spec.specs.Reading.{rows_at, part, entry_in, size_of_data, data_sizes, places_in, counts_ok, is_content, contents_ok, blocks_at}
 use Rattle.spec.proofs.Tests.{and_true}
 use Rattle.judging.specs.Phases.{row_sum}
-use Rattle.judging.proofs.EntryLaws.{Walk, walk_some, walk_more, walk_all}
+use Rattle.judging.proofs.TableLaws.{left, left_some}
 
 -- ---- block after block
 
--- what the contents left say, whose data begin at `here` and end at `stop`, is what all say
-pub record Checking (file : List ℕ) (count : ℕ) (good : Bool) (stop here at left : ℕ) : Type 0 where
-  pub walk : Walk (λ es. contents_ok count es here file) good file at left
-  pub ends : Walk (λ es. here + data_sizes es) stop file at left
+-- what the contents left say, whose data begin at `here` and end inside the file, is what all say
+pub record Checking (file : List ℕ) (count : ℕ) (table : List (List ℕ)) (good : Bool) (here i : ℕ) : Type 0 where
+  pub walk : contents_ok count (left table i) here file ≡ good
+  pub ends : here + data_sizes (left table i) ≤ length file
 
-module _ {file : List ℕ} {count : ℕ} {good : Bool} {stop here at left : ℕ} (c : Checking file count good stop here at left) where
-  pub checking_end : left ≤ 0 → true ≡ good
+module _ {file : List ℕ} {count : ℕ} {table : List (List ℕ)} {good : Bool} {here i : ℕ} (c : Checking file count table good here i) where
+  pub checking_end : length table ≤ i → true ≡ good
   unfolding contents_ok
-  checking_end h = walk_all c.walk h
+  checking_end h = sym (at_drop_all (λ l. contents_ok count (map entry_in l) here file) table i h) ∙ c.walk
 
-  module _ (x : Entry) (h : 0 < left) (e : x ≡ entry_in (part at (at + 4) file)) (n : ℕ) (q : n ≡ size_of_data x.rows) where
-    abbrev rest : List Entry
-    rest = entries_at (left - 1) (at + 4) file
+  module _ (x : Entry) (h : i < length table) (e : x ≡ entry_in (get_or table i [])) (n : ℕ) (q : n ≡ size_of_data x.rows) where
+    next : left table i ≡ x ∷ left table (i + 1)
+    next = left_some table i x h e
 
-    pub checking_inside : here + n ≤ stop
+    ends' : here + n + data_sizes (left table (i + 1)) ≤ length file
     unfolding data_sizes
-    checking_inside = omega (arith, walk_some c.ends x h e)
+    ends' = let t = rw next at c.ends in omega (arith, t, q)
 
-    pub checking_within : stop ≤ length file → here + n ≤ length file
-    checking_within l = omega (arith, checking_inside)
+    pub checking_within : here + n ≤ length file
+    checking_within = omega (arith, ends')
 
     module _ (ok : Bool) (end : ℕ) (r : end ≡ rows_at count x.number) (k : ok ≡ is_content x.rows end (part here (here + n) file)) where
-      first : is_content x.rows (rows_at count x.number) (part here (here + size_of_data x.rows) file) ≡ ok
-      first = sym (rw (r, q) at k)
+      said : ok && contents_ok count (left table (i + 1)) (here + n) file ≡ good
+      unfolding contents_ok
+      said = rw (k, r, q) (rw next at c.walk)
 
       pub checking_wrong : ok ≡ false → false ≡ good
-      unfolding contents_ok
-      checking_wrong o = sym (ap (λ t. t && contents_ok count rest (here + size_of_data x.rows) file) (first ∙ o)) ∙ walk_some c.walk x h e
+      checking_wrong o = rw o at said
 
-      pub checking_more : ok ≡ true → Checking file count good stop (here + n) (at + 4) (left - 1)
-      unfolding contents_ok data_sizes
-      checking_more o =
-          rw q (record {
-            walk = walk_more c.walk (λ es. contents_ok count es (here + size_of_data x.rows) file) x h e
-                (λ es. ap (λ t. t && contents_ok count es (here + size_of_data x.rows) file) (first ∙ o));
-            ends = walk_more c.ends (λ es. here + size_of_data x.rows + data_sizes es) x h e (λ es. sym (add_assoc here (size_of_data x.rows) (data_sizes es)));
-          })
+      pub checking_more : ok ≡ true → Checking file count table good (here + n) (i + 1)
+      checking_more o = record { walk = rw o at said; ends = ends' }
 
 -- ---- as many rows as the entries say
 

@@ -2,22 +2,24 @@
 use Prim.Native.Nat.{ℕ, suc, ◌+◌, ◌-◌, ◌*◌, ◌≤◌, ◌<◌}
 use mathlib.Core.Path.{◌≡◌, sym, ap, ap₂, ◌∙◌}
 use mathlib.Core.Bool.{true, false, ◌&&◌}
-use mathlib.Core.List.{List, [], ◌∷◌}
+use mathlib.Core.List.{List, [], ◌∷◌, map}
 use native.Mathlib.Nat.{add_assoc, add-zero}
 use native.Mathlib.Numerals.{add-one}
 use native.Mathlib.Omega.{arith}
 use lib.ListN.{length, get_or}
 use lib.Dec.{leb, ltb}
 use borrow.Author.Tests.{leb-true, ltb-true}
+use Rattle.std.proofs.lemmas.List.{at_drop_all}
+use Rattle.std.specs.Prelude.{Option, Some, None}
 use Rattle.spec.specs.declared.Entry.{Entry}
 use Rattle.spec.specs.Reading.{count_of_blocks, rows_at, part, entry_in, entries_at, entries_ok, size_of_data, data_sizes}
 use Rattle.spec.proofs.Tests.{and_true}
 use Rattle.spec.proofs.Bytes.{part_none}
 use Rattle.spec.proofs.Content.{size_le}
 use Rattle.words.proofs.LeLaws.{part_first}
+use Rattle.judging.proofs.TableLaws.{left, left_some}
 use Rattle.judging.specs.Phases.{is_entry, row_sum, totals_from}
 use Rattle.judging.specs.declared.entries.Totals.{Totals}
-use Rattle.judging.specs.declared.entries.Totals.TheVariants.{Sums, Wrong}
 
 -- ---- four bytes, one by one
 
@@ -76,7 +78,7 @@ right count low x e =
     record { from = leb-true _ _ q.0; inside = ltb-true _ _ q.1; few = leb-true _ _ p.1 }
 
 module _ (count low rows bytes : ℕ) (x : Entry) (es : List Entry) where
-  totals_wrong : is_entry count low x ≡ false → totals_from count low rows bytes (x ∷ es) ≡ Wrong
+  totals_wrong : is_entry count low x ≡ false → totals_from count low rows bytes (x ∷ es) ≡ None
   unfolding totals_from entries_ok
   totals_wrong e = rw e
 
@@ -107,25 +109,26 @@ small_more {count} {low} {rows} {bytes} {x} s r =
     record { blocks = omega arith; few = omega (arith, s.few, s.fewer); fewer = omega (arith, s.fewer); bytes' = omega (arith, s.bytes') }
 
 -- on top of them, the entries left give what all entries give
-pub record Adding (file : List ℕ) (count : ℕ) (all : Totals) (low rows bytes at left : ℕ) : Type 0 where
-  pub walk : Walk (totals_from count low rows bytes) all file at left
+pub record Adding (table : List (List ℕ)) (count : ℕ) (all : Option Totals) (low rows bytes i : ℕ) : Type 0 where
+  pub walk : totals_from count low rows bytes (left table i) ≡ all
   pub small : Small count low rows bytes
 
-module _ {file : List ℕ} {count : ℕ} {all : Totals} {low rows bytes at left : ℕ} (a : Adding file count all low rows bytes at left) where
-  pub adding_end : left ≤ 0 → Sums rows bytes ≡ all
+module _ {table : List (List ℕ)} {count : ℕ} {all : Option Totals} {low rows bytes i : ℕ} (a : Adding table count all low rows bytes i) where
+  pub adding_end : length table ≤ i → Some (record { rows = rows; size = bytes }) ≡ all
   unfolding totals_from entries_ok row_sum data_sizes
-  adding_end h = sym (ap₂ Sums (add-zero rows) (add-zero bytes)) ∙ walk_all a.walk h
+  adding_end h =
+      sym (ap₂ (λ r b. Some (record { rows = r; size = b })) (add-zero rows) (add-zero bytes))
+      ∙ sym (at_drop_all (λ l. totals_from count low rows bytes (map entry_in l)) table i h) ∙ a.walk
 
-  module _ (x : Entry) (h : 0 < left) (e : x ≡ entry_in (part at (at + 4) file)) where
-    pub adding_wrong : is_entry count low x ≡ false → Wrong ≡ all
-    adding_wrong o = sym (totals_wrong count low rows bytes x (entries_at (left - 1) (at + 4) file) o) ∙ walk_some a.walk x h e
+  module _ (x : Entry) (h : i < length table) (e : x ≡ entry_in (get_or table i [])) where
+    first : totals_from count low rows bytes (x ∷ left table (i + 1)) ≡ all
+    first = sym (ap (totals_from count low rows bytes) (left_some table i x h e)) ∙ a.walk
+
+    pub adding_wrong : is_entry count low x ≡ false → None ≡ all
+    adding_wrong o = sym (totals_wrong count low rows bytes x (left table (i + 1)) o) ∙ first
 
     pub adding_small : is_entry count low x ≡ true → Small count (x.number + 1) (rows + x.rows) (bytes + size_of_data x.rows)
     adding_small o = small_more a.small (right count low x o)
 
-    pub adding_more : (n : ℕ) → n ≡ size_of_data x.rows → is_entry count low x ≡ true → Adding file count all (x.number + 1) (rows + x.rows) (bytes + n) (at + 4) (left - 1)
-    adding_more n q o =
-        rw q (record {
-          walk = walk_more a.walk (totals_from count (x.number + 1) (rows + x.rows) (bytes + size_of_data x.rows)) x h e (λ es. totals_more count low rows bytes x es o);
-          small = adding_small o;
-        })
+    pub adding_more : (n : ℕ) → n ≡ size_of_data x.rows → is_entry count low x ≡ true → Adding table count all (x.number + 1) (rows + x.rows) (bytes + n) (i + 1)
+    adding_more n q o = rw q (record { walk = sym (totals_more count low rows bytes x (left table (i + 1)) o) ∙ first; small = adding_small o })

@@ -1,3 +1,4 @@
+pub mod TableLaws
 pub mod HeadLaws
 pub mod EntryLaws
 pub mod ContentLaws

@@ -1,32 +1,23 @@
 // The contents of the blocks: 8, what the data say is not what the entries and the row count allow.
-ghost use Rattle.std.specs.Prelude.{◌≡◌, ◌+◌, ◌*◌, ◌≤◌, length};
-ghost use Rattle.spec.specs.Reading.{entries_at, size_of_data, data_sizes, is_content, contents_ok};
+ghost use Rattle.std.specs.Prelude.{◌≡◌, ◌+◌, ◌≤◌, length, map};
+ghost use Rattle.spec.specs.Reading.{entry_in, size_of_data, data_sizes, is_content, contents_ok};
 
-// Whether all blocks' contents are right: their data lie one after the other from start on.
-pub(crate) fn all_ok(
-    bytes: &[u8],
-    start: usize,
-    from: usize,
-    entries: usize,
-    row_count: u32,
-) -> bool
-    requires entries_within { from + 4 * entries ≤ length bytes.now }
-    requires within { start + data_sizes (entries_at entries from bytes.now) ≤ length bytes.now }
-    ensures { result ≡ contents_ok row_count (entries_at entries from bytes.now) start bytes.now }
+use crate::head::Head;
+
+// Whether all blocks' contents are right: behind the head their data lie one after the other.
+pub(crate) fn all_ok(bytes: &[u8], head: Head, table: &[[u8; 4]]) -> bool
+    requires { head.start + data_sizes (map entry_in table.now) ≤ length bytes.now }
+    ensures { result ≡ contents_ok head.row_count (map entry_in table.now) head.start bytes.now }
 {
-    let mut data = start;
-    let mut at = from;
-    let mut left = entries;
-    while 0 < left {
-        let x = crate::entries::entry_at(bytes, at);
-        let to = data + words::block::data_size(x.rows as usize);
-        let end = crate::entries::rows_at(row_count, x.number);
-        if !content_ok(&bytes[data..to], x.rows, end) {
+    let mut from = head.start;
+    for four in table {
+        let x = words::entry::from_bytes(*four);
+        let to = from + words::block::data_size(x.rows as usize);
+        let end = crate::entries::rows_at(head.row_count, x.number);
+        if !content_ok(&bytes[from..to], x.rows, end) {
             return false;
         }
-        data = to;
-        at += 4;
-        left -= 1;
+        from = to;
     }
     true
 }
@@ -37,7 +28,8 @@ fn content_ok(part: &[u8], rows: u32, end: u32) -> bool
     ensures { result ≡ is_content rows end part.now }
 {
     if rows < 5120 {
-        return sparse::content_ok(part, rows, end);
+        sparse::content_ok(part, rows, end)
+    } else {
+        dense::content_ok(part, rows, end)
     }
-    dense::content_ok(part, rows, end)
 }

@@ -3,37 +3,29 @@ ghost use Rattle.std.specs.Prelude.{◌≡◌};
 ghost use Rattle.judging.specs.Phases.{head_of};
 
 use spec::Refusal;
-use words::count::Counted;
-
-// 65,535 blocks of 65,536 rows.
-const LIMIT: u64 = 4294901760;
+use words::block::LIMIT;
 
 // The row count, and how many bytes it takes.
-#[derive(Clone, Copy)]
-pub(crate) enum Head {
-    Is { row_count: u32, start: usize },
-    Refused(Refusal),
+#[derive(Clone, Copy, Debug, PartialEq, Eq)]
+pub(crate) struct Head {
+    pub row_count: u32,
+    pub start: usize,
 }
 
 // The row count ends before the last two bytes, which hold the number of entries.
-pub(crate) fn read(bytes: &[u8]) -> Head
+pub(crate) fn read(bytes: &[u8]) -> Result<Head, Refusal>
     ensures { result ≡ head_of bytes.now }
 {
     if bytes.len() < 2 {
-        return Head::Refused(Refusal::Header);
+        return Err(Refusal::Header);
     }
     let end = bytes.len() - 2;
-    match words::count::read(&bytes[..end]) {
-        Counted::Is(c) => {
-            if LIMIT < c.count {
-                return Head::Refused(Refusal::Rows);
-            }
-            Head::Is {
-                row_count: c.count as u32,
-                start: c.start,
-            }
-        }
-        Counted::Padded => Head::Refused(Refusal::Header),
-        Counted::Unended => Head::Refused(Refusal::Header),
+    let c = words::count::read(&bytes[..end]).map_err(|_| Refusal::Header)?;
+    if c.count > LIMIT as u64 {
+        return Err(Refusal::Rows);
     }
+    Ok(Head {
+        row_count: c.count as u32,
+        start: c.start,
+    })
 }

@@ -5,13 +5,11 @@ mod contents;
 pub mod entries;
 mod head;
 
-ghost use Rattle.std.specs.Prelude.{◌≡◌};
+ghost use Rattle.std.specs.Prelude.{◌≡◌, Ok};
 ghost use Rattle.spec.specs.Answers.{opened};
 ghost use Rattle.spec.specs.Reading.{verdict};
 ghost use Rattle.judging.specs.Phases.{judged, head_of};
-ghost use Rattle.judging.specs.declared.head.Head.TheVariants.{Is};
 
-use entries::Totals;
 use head::Head;
 use spec::{Opened, Record, Refusal};
 
@@ -19,38 +17,31 @@ use spec::{Opened, Record, Refusal};
 pub fn judge(bytes: &[u8]) -> Opened
     ensures { opened result ≡ judged (verdict bytes.now) }
 {
-    match head::read(bytes) {
-        Head::Refused(e) => Opened::Refused(e),
-        Head::Is { row_count, start } => judge_blocks(bytes, row_count, start),
-    }
+    let head = head::read(bytes)?;
+    judge_blocks(bytes, head)
 }
 
 // The same, behind a row count that is right.
-fn judge_blocks(bytes: &[u8], row_count: u32, start: usize) -> Opened
-    requires { head_of bytes.now ≡ Is row_count start }
+fn judge_blocks(bytes: &[u8], head: Head) -> Opened
+    requires { head_of bytes.now ≡ Ok head }
     ensures { opened result ≡ judged (verdict bytes.now) }
 {
-    let end = bytes.len() - 2;
-    let number = words::le::u16_at(bytes, end) as usize;
-    if bytes.len() < start + 4 * number + 2 {
-        return Opened::Refused(Refusal::Entries);
+    let number = entries::count(bytes) as usize;
+    if bytes.len() < head.start + 4 * number + 2 {
+        return Err(Refusal::Entries);
     }
-    let from = end - 4 * number;
-    match entries::add_up(bytes, from, number, row_count) {
-        Totals::Wrong => Opened::Refused(Refusal::Entries),
-        Totals::Sums { rows, size } => {
-            if from - start != size {
-                return Opened::Refused(Refusal::Length);
-            }
-            if !contents::all_ok(bytes, start, from, number, row_count) {
-                return Opened::Refused(Refusal::Content);
-            }
-            let data_start = start as u32;
-            Opened::Index(Record {
-                row_count,
-                populated: rows,
-                data_start,
-            })
-        }
+    let table = entries::table(bytes);
+    let totals = entries::add_up(table, head.row_count).ok_or(Refusal::Entries)?;
+    let from = bytes.len() - 2 - 4 * number;
+    if from - head.start != totals.size {
+        return Err(Refusal::Length);
     }
+    if !contents::all_ok(bytes, head, table) {
+        return Err(Refusal::Content);
+    }
+    Ok(Record {
+        row_count: head.row_count,
+        populated: totals.rows,
+        data_start: head.start as u32,
+    })
 }

@@ -6,8 +6,8 @@ use mathlib.Core.List.{List, [], ◌∷◌}
 use native.Mathlib.Nat.{zero-add, div-eq_of_lt, lt_of_lt_of_le, pow-suc}
 use native.Mathlib.Numerals.{add-one}
 use native.Mathlib.Omega.{arith}
-use lib.ListN.{length, drop}
-use lib.Seq.{drop-cons, drop-nil}
+use lib.ListN.{length, get_or, take, drop, length-map, length-take, length-drop, get_or-map}
+use lib.Seq.{length-take-le, drop-cons, drop-nil, get_or-take, get_or-drop}
 use lib.Dec.{ltb, eqb}
 use lib.Pow.{pow_pos, pow_mono}
 use borrow.Author.Tests.{ltb-true, ltb-false}
@@ -18,7 +18,7 @@ use Rattle.spec.proofs.Tests.{by_test}
 use Rattle.spec.proofs.Rising.{Rising, rising_apart, rising_drop}
 use Rattle.spec.proofs.Questions.{rank_le, rank_mono, rank_low, rank_select, rank_after, rank_above}
 use Rattle.spec.proofs.Words.{word_here, word_elsewhere}
-use Rattle.mini.specs.Mini.{Gathers}
+use Rattle.mini.specs.Mini.{places, Gathers}
 use Rattle.mini.proofs.BitLaws.{contains_bit}
 
 -- ---- the word of mini-block m, without the places of others
@@ -56,6 +56,24 @@ word_past m low end (suc i) (p ∷ ps) r h =
     by_test (ltb p (64 * (m + 1))) (λ e. word_past m (suc p) end i ps r.2 (omega (arith, rw e at h)))
     (λ e. word_past m (suc p) end i ps r.2
     (omega (arith, rank_low (suc p) end ps r.2 (64 * (m + 1)) (omega (arith, ltb-false p (64 * (m + 1)) e)))))
+
+-- ---- rows
+
+-- the rows with places before one
+pub rank_within : (d : ℕ) (rows : List ℕ) → rank d (places rows) ≤ length rows
+rank_within d rows = omega (arith, rank_le d (places rows), length-map rows (λ r. r % size))
+
+-- those from an index on
+pub rest_length : (from : ℕ) (rows : List ℕ) → from ≤ length rows → from + length (take (length rows - from) (drop from rows)) ≡ length rows
+rest_length from rows h = omega (arith, length-take-le (length rows - from) (drop from rows) (omega (arith, length-drop from rows)))
+
+-- the place of row i of them
+pub rest_place : (from i : ℕ) (rows : List ℕ) → i < length (take (length rows - from) (drop from rows))
+    → (from + i < length (places rows)) × (get_or (take (length rows - from) (drop from rows)) i 0 % size ≡ select (from + i) (places rows))
+rest_place from i rows h =
+    let n : i < length rows - from = omega (arith, length-take (length rows - from) (drop from rows)) in
+    let e = get_or-take (length rows - from) (drop from rows) i 0 n ∙ get_or-drop from rows i 0 in
+    (omega (arith, length-map rows (λ r. r % size)), ap (λ r. r % size) e ∙ sym (get_or-map (λ r. r % size) rows (from + i) 0))
 
 -- ---- gathering: w has the places of mini-block m before index i, and so no bit at or above the place at i
 

@@ -1,25 +1,24 @@
 -- The lowest places of a word: clearing the lowest bit, the trailing zeros, the bits from a place on, and none past an end.
 use Prim.Native.Nat.{ℕ, zero, suc, ◌+◌, ◌-◌, ◌*◌, ◌/◌, ◌%◌, ◌^◌, ◌≤◌, ◌<◌}
 use mathlib.Core.Path.{◌≡◌, refl, sym, ap, ap₂, ◌∙◌}
-use mathlib.Core.Bool.{true, cond}
+use mathlib.Core.Bool.{true}
 use mathlib.Core.List.{[], ◌∷◌}
 use mathlib.Core.Option.{some, none}
 use native.Mathlib.Nat.{mod-eq_of_lt, div-one, div-eq_of_lt, zero-div, div-mul-le_self, lt_of_le_of_lt, lt_of_lt_of_le, mul-one, add-zero, pow-suc}
 use native.Mathlib.Omega.{arith}
 use lib.ListN.{length, get_or, drop, length-drop}
 use lib.Seq.{drop-cons, drop-drop, get_or-drop}
-use lib.Dec.{ltb, eqb, leb-suc-suc}
+use lib.Dec.{ltb, eqb}
 use lib.Bits.{bit_and, and_step, and_self}
 use lib.Count.{count_trailing_zeros}
 use lib.Pow.{pow_mono}
-use borrow.Author.Tests.{eq-eqb, ne_eqb, eqb-true, eqb-false, lt-leb, le-leb, lt-ltb, le-ltb, ltb-true, ltb-false}
+use borrow.Author.Tests.{eq-eqb, ne_eqb, eqb-true, eqb-false, lt-leb, le-leb, ltb-true, ltb-false}
 use Rattle.spec.specs.Set.{next, below}
 use Rattle.spec.specs.Reading.{bits}
 use Rattle.spec.proofs.Tests.{by_test}
 use Rattle.spec.proofs.Rising.{rising_between}
 use Rattle.spec.proofs.Questions.{next_low}
 use Rattle.spec.proofs.Words.{bits_rising}
-use Rattle.mini.specs.Bits.{or_none}
 use Rattle.mini.proofs.BitLaws.{by_parity, bits_odd, bits_even, no_bits, half_pow}
 
 -- a word without bits has no places, so one with places is not 0
@@ -68,19 +67,6 @@ zeros_odd f w e = rw e
 zeros_even : (f w : ℕ) → w % 2 ≡ 0 → count_trailing_zeros (suc f) w ≡ suc (count_trailing_zeros f (w / 2))
 unfolding count_trailing_zeros
 zeros_even f w e = rw e
-
--- of f bits, where the word's own first place is p
-first_bit : (f p w : ℕ) → next p (bits f p w) ≡ cond (ltb (count_trailing_zeros f w) f) (some (p + count_trailing_zeros f w)) none
-unfolding next
-first_bit zero p w = rw (no_bits p w, le-ltb (count_trailing_zeros 0 w) 0 (omega arith))
-first_bit (suc f) p w =
-    let t = count_trailing_zeros f (w / 2) in
-    by_parity w
-    (λ e.
-    let s : p + suc t ≡ suc p + t = omega arith in
-    rw (zeros_even f w e, bits_even f p w e, leb-suc-suc, s)
-    (next_low (suc p) (suc p + f) (bits f (suc p) (w / 2)) (bits_rising f (suc p) (w / 2)) p (suc p) (omega arith) (omega arith) ∙ first_bit f (suc p) (w / 2)))
-    (λ e. rw (zeros_odd f w e, bits_odd f p w e, le-leb p p (omega arith), lt-ltb 0 (suc f) (omega arith), add-zero p))
 
 -- of a word with places they are the first
 first_place : (f p w : ℕ) → 0 < length (bits f p w) → p + count_trailing_zeros f w ≡ get_or (bits f p w) 0 0
@@ -141,14 +127,25 @@ next_bits (suc f) p (suc n) w h =
     rw (s, cut, bits_even f p (v * 2) (omega arith), half)
     (by_parity w (λ e. rw (bits_even f p w e) (i ∙ low)) (λ e. rw (bits_odd f p w e, lt-leb (suc p + n) p (omega arith)) (i ∙ low)))
 
--- so the trailing zeros of what the shifts leave are the next place
-pub next_zeros : (n w : ℕ) → n < 64 → w < 2 ^ 64 → or_none (count_trailing_zeros 64 ((w / 2 ^ n * 2 ^ n) % 2 ^ 64)) ≡ next n (bits 64 0 w)
-next_zeros n w h l =
-    let z : 0 + n ≡ n = omega arith in
-    let t = count_trailing_zeros 64 (w / 2 ^ n * 2 ^ n) in
-    let first : 0 + t ≡ t = omega arith in
-    rw (mod-eq_of_lt (lt_of_le_of_lt (div-mul-le_self w (2 ^ n)) l))
-    (sym ((rw z at (next_bits 64 0 n w (omega arith))) ∙ (rw first at (first_bit 64 0 (w / 2 ^ n * 2 ^ n)))))
+-- so it is the first place of what the shifts leave
+module _ (n w : ℕ) (h : n < 64) (l : w < 2 ^ 64) where
+  next_left : next n (bits 64 0 w) ≡ next 0 (bits 64 0 ((w / 2 ^ n * 2 ^ n) % 2 ^ 64))
+  next_left =
+      let z : 0 + n ≡ n = omega arith in
+      rw (mod-eq_of_lt (lt_of_le_of_lt (div-mul-le_self w (2 ^ n)) l)) (rw z at (next_bits 64 0 n w (omega arith)))
+
+  -- none, if that is 0
+  pub next_none : (w / 2 ^ n * 2 ^ n) % 2 ^ 64 ≡ 0 → none ≡ next n (bits 64 0 w)
+  unfolding next
+  next_none e = sym (next_left ∙ rw (e, bits_zero 64 0) refl)
+
+  -- else its trailing zeros
+  pub next_some : 0 < (w / 2 ^ n * 2 ^ n) % 2 ^ 64 → some (count_trailing_zeros 64 ((w / 2 ^ n * 2 ^ n) % 2 ^ 64)) ≡ next n (bits 64 0 w)
+  unfolding next
+  next_some e =
+      let v = (w / 2 ^ n * 2 ^ n) % 2 ^ 64 in
+      let z : 0 + count_trailing_zeros 64 v ≡ count_trailing_zeros 64 v = omega arith in
+      sym (next_left ∙ rw (lowest_first 64 0 v (omega arith) e, z, le-leb 0 (count_trailing_zeros 64 v) (omega arith)) refl)
 
 -- ---- none at or past an end
 

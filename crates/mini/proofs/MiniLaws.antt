@@ -1,10 +1,13 @@
 -- A mini-block and its ten bytes: each gives the other back. Ten bytes, copied, and as a part of a block.
-use Prim.Native.Nat.{ℕ, zero, suc, ◌+◌, ◌-◌, ◌*◌, ◌^◌, ◌≤◌, ◌<◌}
+use Prim.Native.Nat.{ℕ, zero, suc, ◌+◌, ◌-◌, ◌*◌, ◌/◌, ◌^◌, ◌≤◌, ◌<◌}
 use mathlib.Core.Path.{◌≡◌, refl, sym, ap, ap₂, ◌∙◌}
-use mathlib.Core.List.{List, [], ◌∷◌, ◌++◌, append-nil}
+use mathlib.Core.List.{List, [], ◌++◌, append-nil}
+use native.Mathlib.Nat.{mul-zero, mul-suc}
 use native.Mathlib.Omega.{arith}
-use lib.ListN.{length, take, drop, drop_of_length-le, length-append}
-use lib.Seq.{sets, sets-eq, drop-drop, take-take, take-nil}
+use lib.ListN.{length, get_or, take, drop, length-append}
+use lib.Seq.{drop-drop, take-take}
+use Rattle.std.proofs.lemmas.List.{drop-take}
+use Rattle.std.specs.Simd.{first_chunks}
 use Rattle.spec.specs.Layout.{bytes_of}
 use Rattle.spec.specs.Reading.{AreBytes, number_in, part}
 use Rattle.spec.proofs.Bytes.{length_bytes, number_bytes, part_at, part_all, part_join, part_number}
@@ -34,11 +37,6 @@ bytes_mini bs y n =
 
 -- ---- ten bytes, copied
 
--- a list that is stored whole over one as long
-pub sets_whole : (d x : List ℕ) → length x ≡ length d → sets d 0 x ≡ x
-sets_whole d x e =
-    sets-eq x d 0 (omega arith) ∙ ap (λ l. x ++ l) (drop_of_length-le d {i = 0 + length x} (omega arith)) ∙ append-nil x
-
 -- the ten bytes of a mini-block, as the part that is copied
 pub part_mini : (x : DenseMiniBlock) (ten : List ℕ) → ten ≡ mini_bytes x → part 0 10 ten ≡ mini_bytes x
 part_mini x ten e =
@@ -49,10 +47,9 @@ part_mini x ten e =
 
 -- what is taken of a longer front
 take_within : (n a t : ℕ) (l : List ℕ) → a + n ≤ t → take n (drop a (take t l)) ≡ take n (drop a l)
-take_within n zero t l h = take-take n t l (omega arith)
-take_within n (suc a) t [] h = rw (take-nil t)
-take_within n (suc a) zero (x ∷ l) h = absurd (omega arith)
-take_within n (suc a) (suc t) (x ∷ l) h = take_within n a t l (omega arith)
+take_within n a t l h =
+    let e : t ≡ a + (t - a) = omega arith in
+    ap (λ t. take n (drop a (take t l))) e ∙ ap (take n) (drop-take a (t - a) l) ∙ take-take n (t - a) (drop a l) (omega arith)
 
 -- of a part that is long enough
 part_part : (a b c d : ℕ) (bs : List ℕ) → a ≤ b → c + b ≤ d → part a b (part c d bs) ≡ part (c + a) (c + b) bs
@@ -60,6 +57,22 @@ unfolding part
 part_part a b c d bs h l =
     let n : c + b - (c + a) ≡ b - a = omega arith in
     rw n (take_within (b - a) a (d - c) (drop c bs) (omega arith) ∙ ap (take (b - a)) (drop-drop a c bs))
+
+-- chunk i of a list that is cut into chunks of n
+chunk_at : (n k i : ℕ) (bs : List ℕ) → i < k → get_or (first_chunks n k bs) i [] ≡ take n (drop (n * i) bs)
+chunk_at n zero i bs h = absurd (omega arith)
+chunk_at n (suc k) zero bs h = rw mul-zero refl
+chunk_at n (suc k) (suc i) bs h =
+    let e : n * suc i ≡ n + n * i = omega (arith, mul-suc n i) in
+    rw e (chunk_at n k i (drop n bs) (omega arith) ∙ ap (take n) (drop-drop (n * i) n bs))
+
+-- of chunks of ten bytes
+pub mini_chunk : (bs : List ℕ) (m : ℕ) → length bs ≡ 10240 → m < 1024
+    → get_or (first_chunks 10 (length bs / 10) bs) m [] ≡ part (10 * m) (10 * m + 10) bs
+unfolding part
+mini_chunk bs m e h =
+    let n : 10 * m + 10 - 10 * m ≡ 10 = omega arith in
+    rw n (chunk_at 10 (length bs / 10) m bs (omega arith))
 
 -- the ten bytes of mini-block m
 pub mini_at : (bs : List ℕ) (m : ℕ) (x : DenseMiniBlock) → x ≡ mini_in (part (10 * m) (10 * m + 10) bs) → MiniAt bs m x

@@ -1,7 +1,8 @@
 -- What a question of a word's 64 places answers.
-use Rattle.std.specs.Prelude.{ℕ, cond, ltb}
-use Rattle.std.proofs.Math.Option.{Option, none, some}
+use Rattle.std.specs.Prelude.{ℕ, Option, Some, None}
+use Rattle.std.proofs.Math.Option as maybe
 
--- a place of a word, or none, said by 64
-abbrev pub or_none : ℕ → Option ℕ
-or_none p = cond (ltb p 64) (some p) none
+-- the place that is said, or none
+abbrev pub place_in : Option ℕ → maybe.Option ℕ
+place_in (Some p) = maybe.some p
+place_in None = maybe.none

@@ -1,8 +1,8 @@
 // A word's 64 bits as a set of places: place p is in the set where bit p is set.
-ghost use Rattle.std.specs.Prelude.{◌≡◌, cond, ℕ, ◌+◌, ◌^◌, ◌<◌, ◌≤◌, length, drop};
+ghost use Rattle.std.specs.Prelude.{◌≡◌, cond, ℕ, ◌+◌, ◌^◌, ◌<◌, ◌≤◌, length, drop, IfSome};
 ghost use Rattle.spec.specs.Set.{contains, rank, select, next, below};
 ghost use Rattle.spec.specs.Reading.{bits};
-ghost use Rattle.mini.specs.Bits.{or_none};
+ghost use Rattle.mini.specs.Bits.{place_in};
 
 // Whether place n is in the set.
 pub fn get_bit_at(input: u64, n: u16) -> bool
@@ -26,7 +26,7 @@ pub fn rank_u64(bitvec: u64, el: u16) -> u16
     ensures { result ≡ rank el (bits 64 0 bitvec) }
 {
     let mask = (1 << el) - 1;
-    u64::count_ones(bitvec & mask) as u16
+    (bitvec & mask).count_ones() as u16
 }
 
 // The place in the set with k of the set below it.
@@ -36,9 +36,9 @@ pub fn select_u64(bitvec: u64, k: u16) -> u16
 {
     let mut left = bitvec;
     for _ in 0..k {
-        left = left & (left - 1);
+        left &= left - 1;
     }
-    u64::trailing_zeros(left) as u16
+    left.trailing_zeros() as u16
 }
 
 // The word of the set without its first n places.
@@ -46,23 +46,26 @@ pub fn clear_lowest(bitvec: u64, n: u32) -> u64
     ensures { (p : ℕ) → bits 64 p result ≡ drop n (bits 64 p bitvec) }
 {
     let mut left = bitvec;
-    let mut i = 0;
-    while i < n {
+    for _ in 0..n {
         if left == 0 {
             return 0;
         }
-        left = left & (left - 1);
-        i += 1;
+        left &= left - 1;
     }
     left
 }
 
-// The first place in the set at or after a place; 64 where there is none.
-pub fn next_u64(bitvec: u64, from: u16) -> u16
+// The first place in the set at or after a place.
+pub fn next_u64(bitvec: u64, from: u16) -> Option<u16>
     requires { from < 64 }
-    ensures { (result ≤ 64) × (or_none result ≡ next from (bits 64 0 bitvec)) }
+    ensures inside { IfSome result (λ p. p < 64) }
+    ensures first { place_in result ≡ next from (bits 64 0 bitvec) }
 {
-    u64::trailing_zeros((bitvec >> from) << from) as u16
+    let left = (bitvec >> from) << from;
+    if left == 0 {
+        return None;
+    }
+    Some(left.trailing_zeros() as u16)
 }
 
 // Whether no place is at or past an end, where the word's own first place is `from`.

@@ -10,7 +10,7 @@ ghost use Rattle.spec.specs.Layout.{size};
 ghost use Rattle.mini.specs.Mini.{mini_in, mini_bytes, MiniAt, places, Gathers};
 
 // A word, and the number of rows before it.
-#[derive(Clone, Copy)]
+#[derive(Debug, Clone, Copy, PartialEq, Eq)]
 pub struct DenseMiniBlock {
     pub bitvec: u64,
     pub rank: u16,
@@ -21,20 +21,19 @@ impl DenseMiniBlock {
     pub fn from_bytes(data: [u8; 10]) -> Self
         ensures { result ≡ mini_in «data» }
     {
-        let bitvec = words::le::read(&data, 0, 8);
-        let rank = words::le::u16_at(&data, 8);
-        DenseMiniBlock { bitvec, rank }
+        DenseMiniBlock {
+            bitvec: words::le::read(&data, 0, 8),
+            rank: words::le::u16_at(&data, 8),
+        }
     }
 
     // The ten bytes of a mini-block.
     pub fn to_bytes(self) -> [u8; 10]
         ensures { result ≡ mini_bytes self }
     {
-        let bitvec = self.bitvec;
-        let rank = self.rank;
         let mut out = [0u8; 10];
-        words::le::write(&mut out, 0, 8, bitvec);
-        words::le::put_u16(&mut out, 8, rank);
+        words::le::write(&mut out, 0, 8, self.bitvec);
+        words::le::put_u16(&mut out, 8, self.rank);
         out
     }
 }
@@ -44,9 +43,8 @@ pub fn mini_block(part: &[u8], m: u16) -> DenseMiniBlock
     requires { (length part.now ≡ 10240) × (m < 1024) }
     ensures { MiniAt part.now m result }
 {
-    let mut ten = [0u8; 10];
-    words::copy(part, 10 * m as usize, &mut ten, 0, 10);
-    DenseMiniBlock::from_bytes(ten)
+    let (minis, _) = part.as_chunks::<10>();
+    DenseMiniBlock::from_bytes(minis[m as usize])
 }
 
 // Stores mini-block m of a block: the number of rows before it, and its word.
@@ -54,35 +52,40 @@ pub fn put(out: &mut [u8], m: u16, before: u16, word: u64)
     requires { (length out.old ≡ 10240) × (m < 1024) }
     ensures { out.new ≡ sets out.old (10 * m) (mini_bytes (record { bitvec = word; rank = before })) }
 {
-    let x = DenseMiniBlock {
+    let mini = DenseMiniBlock {
         bitvec: word,
         rank: before,
     };
-    let ten = x.to_bytes();
-    words::copy(&ten, 0, out, 10 * m as usize, 10);
+    // copy_from_slice takes 1.4 times as long here: it asks whether the two overlap.
+    words::copy(&mini.to_bytes(), 0, out, 10 * m as usize, 10);
 }
 
 // A word made of rows, and the index of the first row past them.
-#[derive(Clone, Copy)]
+#[derive(Debug, Clone, Copy, PartialEq, Eq)]
 pub struct Gathered {
     pub word: u64,
     pub next: usize,
 }
 
 // The word of mini-block m, from the rows of a block from an index on, which earlier mini-blocks end before.
+#[tactic(auto, using(crate::proofs::GatherLaws::rank_within))]
 pub fn gather(rows: &[u32], from: usize, m: u16) -> Gathered
     requires { (m < 1024) × (rising 0 size (places rows.now) ≡ true) × (from ≡ rank (64 * m) (places rows.now)) }
     ensures { Gathers (places rows.now) m result }
 {
     let mut word: u64 = 0;
-    let mut i = from;
-    while i < rows.len() {
-        let place = rows[i] % 65536;
+    for (i, row) in rows[from..].iter().enumerate() {
+        let place = row % 65536;
         if place / 64 != m as u32 {
-            return Gathered { word, next: i };
+            return Gathered {
+                word,
+                next: from + i,
+            };
         }
         word = bits::set_bit_at(word, (place % 64) as u16);
-        i += 1;
     }
-    Gathered { word, next: i }
+    Gathered {
+        word,
+        next: rows.len(),
+    }
 }

@@ -1,18 +1,20 @@
 -- Filling a directory: pair by pair, and run by run.
 use Prim.Native.Nat.{ℕ, zero, suc, ◌+◌, ◌-◌, ◌*◌, ◌≤◌, ◌<◌}
-use mathlib.Core.Path.{◌≡◌, refl, ◌∙◌}
+use mathlib.Core.Path.{◌≡◌, refl, sym, ◌∙◌}
 use mathlib.Core.Bool.{true}
-use mathlib.Core.List.{List}
+use mathlib.Core.List.{List, [], ◌∷◌, map}
 use native.Mathlib.Numerals.{add-one}
 use native.Mathlib.Omega.{arith}
-use lib.ListN.{length, set, length-set}
+use lib.ListN.{length, get_or, set, length-set}
 use lib.Seq.{sets, length-sets}
+use Rattle.std.proofs.lemmas.List.{at_drop_all}
 use Rattle.spec.specs.declared.Entry.{Entry}
-use Rattle.spec.specs.Reading.{count_of_blocks, part, entry_in, entries_at, entries_ok, size_of_data}
+use Rattle.spec.specs.Reading.{count_of_blocks, entry_in, entries_ok, size_of_data}
 use Rattle.spec.proofs.Tests.{and_true}
 use Rattle.words.proofs.StoreLaws.{sets_append}
 use Rattle.judging.specs.Phases.{is_entry}
-use Rattle.judging.proofs.EntryLaws.{Walk, walk_some, walk_more, walk_all, Right, right, Small, small_more}
+use Rattle.judging.proofs.TableLaws.{left, left_some}
+use Rattle.judging.proofs.EntryLaws.{Right, right, Small, small_more}
 use Rattle.opening.specs.Filling.{same}
 use Rattle.opening.proofs.PairLaws.{runs}
 
@@ -44,21 +46,24 @@ module _ {d₀ : List ℕ} {from to rows bytes : ℕ} {d : List ℕ} {b : ℕ} (
 -- ---- run after run
 
 -- the entries left are right behind block b, and their runs make of d what all make of d₀
-pub record Filling (d₀ file : List ℕ) (count : ℕ) (all d : List ℕ) (b rows bytes at left : ℕ) : Type 0 where
-  pub entries : Walk (entries_ok count b) true file at left
+pub record Filling (d₀ : List ℕ) (table : List (List ℕ)) (count : ℕ) (all d : List ℕ) (b rows bytes i : ℕ) : Type 0 where
+  pub entries : entries_ok count b (left table i) ≡ true
   pub small : Small count b rows bytes
   pub long : length d ≡ length d₀
-  pub runs' : Walk (λ es. sets d (2 * b) (runs (count_of_blocks count) b rows bytes es)) all file at left
+  pub runs' : sets d (2 * b) (runs (count_of_blocks count) b rows bytes (left table i)) ≡ all
 
-module _ {d₀ file : List ℕ} {count : ℕ} {all d : List ℕ} {b rows bytes at left : ℕ} (f : Filling d₀ file count all d b rows bytes at left) where
-  pub fill_end : left ≤ 0 → sets d (2 * b) (same (count_of_blocks count + 1 - b) rows bytes) ≡ all
+module _ {d₀ : List ℕ} {table : List (List ℕ)} {count : ℕ} {all d : List ℕ} {b rows bytes i : ℕ} (f : Filling d₀ table count all d b rows bytes i) where
+  pub fill_end : length table ≤ i → sets d (2 * b) (same (count_of_blocks count + 1 - b) rows bytes) ≡ all
   unfolding runs
-  fill_end h = walk_all f.runs' h
+  fill_end h = sym (at_drop_all (λ l. sets d (2 * b) (runs (count_of_blocks count) b rows bytes (map entry_in l))) table i h) ∙ f.runs'
 
-  module _ (x : Entry) (h : 0 < left) (e : x ≡ entry_in (part at (at + 4) file)) where
-    first : (is_entry count b x ≡ true) × (entries_ok count (suc x.number) (entries_at (left - 1) (at + 4) file) ≡ true)
+  module _ (x : Entry) (h : i < length table) (e : x ≡ entry_in (get_or table i [])) where
+    next : left table i ≡ x ∷ left table (i + 1)
+    next = left_some table i x h e
+
+    first : (is_entry count b x ≡ true) × (entries_ok count (suc x.number) (left table (i + 1)) ≡ true)
     unfolding entries_ok
-    first = and_true (is_entry count b x) (entries_ok count (suc x.number) (entries_at (left - 1) (at + 4) file)) (walk_some f.entries x h e)
+    first = and_true (is_entry count b x) (entries_ok count (suc x.number) (left table (i + 1))) (rw next at f.entries)
 
     pub fill_right : Right count b x
     fill_right = right count b x first.0
@@ -67,17 +72,16 @@ module _ {d₀ file : List ℕ} {count : ℕ} {all d : List ℕ} {b rows bytes a
     fill_small = small_more f.small fill_right
 
     pub fill_more : (n : ℕ) (d' : List ℕ) → n ≡ size_of_data x.rows → d' ≡ sets d (2 * b) (same (x.number + 1 - b) rows bytes)
-        → Filling d₀ file count all d' (x.number + 1) (rows + x.rows) (bytes + n) (at + 4) (left - 1)
+        → Filling d₀ table count all d' (x.number + 1) (rows + x.rows) (bytes + n) (i + 1)
     unfolding runs
     fill_more n d' q w =
         let run = same (x.number + 1 - b) rows bytes in
+        let behind = runs (count_of_blocks count) (x.number + 1) (rows + x.rows) (bytes + size_of_data x.rows) (left table (i + 1)) in
         let l = fill_right.from in
         let to : 2 * b + length run ≡ 2 * (x.number + 1) = omega (arith, length_same (x.number + 1 - b) rows bytes) in
-        let m = f.entries.within in
         rw (q, w) (record {
-          entries = record { within = omega arith; same = rw (add-one x.number) first.1 };
+          entries = rw (add-one x.number) first.1;
           small = fill_small;
           long = length-sets d (2 * b) run ∙ f.long;
-          runs' = walk_more f.runs' _ x h e (λ es.
-              sets_append run (runs (count_of_blocks count) (x.number + 1) (rows + x.rows) (bytes + size_of_data x.rows) es) d (2 * b) (2 * (x.number + 1)) to);
+          runs' = sym (sets_append run behind d (2 * b) (2 * (x.number + 1)) to) ∙ (rw next at f.runs');
         })

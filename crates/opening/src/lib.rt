@@ -13,17 +13,12 @@ use spec::{Opened, Refusal};
 pub fn open(bytes: &[u8], directory: &mut [u32]) -> Opened
     ensures { OpenOwes bytes.now directory.old (opened result, directory.new) }
 {
-    match judging::judge(bytes) {
-        Opened::Refused(e) => Opened::Refused(e),
-        Opened::Index(record) => {
-            let row_count = record.row_count;
-            if directory.len() < 2 * (words::block::block_count(row_count) + 1) {
-                return Opened::Refused(Refusal::Room);
-            }
-            fill(bytes, row_count, directory);
-            Opened::Index(record)
-        }
+    let record = judging::judge(bytes)?;
+    if directory.len() < 2 * (words::block::block_count(record.row_count) + 1) {
+        return Err(Refusal::Room);
     }
+    fill(bytes, record.row_count, directory);
+    Ok(record)
 }
 
 // Writes the directory of an accepted file: up to each entry's block the pairs are equal, and so are those behind the last.
@@ -32,22 +27,17 @@ fn fill(bytes: &[u8], row_count: u32, directory: &mut [u32])
     requires room { directory_length row_count ≤ length directory.old }
     ensures { directory.new ≡ sets directory.old 0 (directory_in (verdict bytes.now)) }
 {
-    let end = bytes.len() - 2;
-    let mut left = words::le::u16_at(bytes, end) as usize;
-    let mut at = end - 4 * left;
     let mut block = 0;
     let mut rows: u32 = 0;
     let mut size: u32 = 0;
-    while 0 < left {
-        let x = judging::entries::entry_at(bytes, at);
+    for four in judging::entries::table(bytes) {
+        let x = words::entry::from_bytes(*four);
         let number = x.number as usize;
         let next = number + 1;
         put_pairs(directory, block, next, rows, size);
         block = next;
-        rows = rows + x.rows;
-        size = size + words::block::data_size(x.rows as usize) as u32;
-        at += 4;
-        left -= 1;
+        rows += x.rows;
+        size += words::block::data_size(x.rows as usize) as u32;
     }
     let blocks = words::block::block_count(row_count);
     put_pairs(directory, block, blocks + 1, rows, size);
@@ -58,10 +48,8 @@ fn put_pairs(directory: &mut [u32], from: usize, to: usize, rows: u32, size: u32
     requires { (from ≤ to) × (2 * to ≤ length directory.old) }
     ensures { directory.new ≡ sets directory.old (2 * from) (same (to - from) rows size) }
 {
-    let mut block = from;
-    while block < to {
+    for block in from..to {
         directory[2 * block] = rows;
         directory[2 * block + 1] = size;
-        block += 1;
     }
 }

@@ -16,10 +16,10 @@ pub fn fault(row_count: u32, rows: &[u32]) -> Done
     if rise(rows) {
         let n = rows.len();
         if n == 0 {
-            return Done::Yes;
+            return Ok(());
         }
         if rows[n - 1] < row_count {
-            return Done::Yes;
+            return Ok(());
         }
     }
     first_fault(row_count, rows)
@@ -49,15 +49,15 @@ fn first_fault(row_count: u32, rows: &[u32]) -> Done
     while i < rows.len() {
         let row = rows[i];
         if row < low {
-            return Done::Refused(Refusal::Order);
+            return Err(Refusal::Order);
         }
         if row_count <= row {
-            return Done::Refused(Refusal::Range);
+            return Err(Refusal::Range);
         }
         low = row + 1;
         i += 1;
     }
-    Done::Yes
+    Ok(())
 }
 
 // The first row that is not below end, where that at an index is: gallops, then halves, since the rows never fall.

@@ -1,10 +1,11 @@
 -- The places that bytes say: how many, the one at an index, and those of a part.
 use Prim.Native.Nat.{ℕ, zero, suc, ◌+◌, ◌-◌, ◌*◌, ◌/◌, ◌≤◌, ◌<◌}
 use mathlib.Core.Path.{◌≡◌, refl, sym, ap, ◌∙◌}
-use mathlib.Core.List.{List, [], ◌∷◌}
+use mathlib.Core.List.{List}
 use native.Mathlib.Omega.{arith}
 use lib.ListN.{length, get_or, take, drop, length-take, length-drop}
-use lib.Seq.{ext_get_or, drop-drop, take-take, take-nil}
+use lib.Seq.{ext_get_or, drop-drop, take-take}
+use Rattle.std.proofs.lemmas.List.{drop-take}
 use Rattle.spec.specs.Reading.{number_in, part, sparse_places}
 use Rattle.spec.proofs.Bytes.{length_part, get_or_part}
 use Rattle.search.specs.Search.{places_said}
@@ -36,31 +37,27 @@ place_at bs i h = let e : 0 + 2 * i ≡ 2 * i = omega arith in sparse_at (length
 
 -- ---- of the part from place a up to place e
 
-drop_take : (k n : ℕ) (l : List ℕ) → drop k (take n l) ≡ take (n - k) (drop k l)
-drop_take zero n l = let e : n - 0 ≡ n = omega arith in rw e
-drop_take (suc k) zero l = let e : 0 - suc k ≡ 0 = omega arith in rw e
-drop_take (suc k) (suc n) [] = sym (take-nil (suc n - suc k))
-drop_take (suc k) (suc n) (x ∷ l) = let e : suc n - suc k ≡ n - k = omega arith in rw e (drop_take k n l)
-
 -- two bytes of the part are two bytes of the whole
 part_cut : (bs : List ℕ) (n m k : ℕ) → k + 2 ≤ n → part k (k + 2) (take n (drop m bs)) ≡ part (m + k) (m + k + 2) bs
 unfolding part
 part_cut bs n m k h =
+    let split : k + (n - k) ≡ n = omega arith in
+    let rest : drop k (take n (drop m bs)) ≡ take (n - k) (drop k (drop m bs)) = rw split at (drop-take k (n - k) (drop m bs)) in
     let e : k + 2 - k ≡ m + k + 2 - (m + k) = omega arith in
-    rw (drop_take k n (drop m bs), drop-drop k m bs, take-take (k + 2 - k) (n - k) (drop (m + k) bs) (omega arith), e)
+    rw (rest, drop-drop k m bs, take-take (k + 2 - k) (n - k) (drop (m + k) bs) (omega arith), e)
 
 -- the bytes of the places from a up to e
 abbrev pub cut : List ℕ → ℕ → ℕ → List ℕ
-cut bs a e = take (e * 2 - a * 2) (drop (a * 2) bs)
+cut bs a e = take (2 * e - 2 * a) (drop (2 * a) bs)
 
 module _ (bs : List ℕ) (a e : ℕ) (ends : a ≤ e) (inside : e ≤ length bs / 2) where
   pub length_cut : length (cut bs a e) / 2 ≡ e - a
-  length_cut = omega (arith, length-take (e * 2 - a * 2) (drop (a * 2) bs), length-drop (a * 2) bs)
+  length_cut = omega (arith, length-take (2 * e - 2 * a) (drop (2 * a) bs), length-drop (2 * a) bs)
 
   place_cut : (i : ℕ) → i < e - a → get_or (places_said (cut bs a e)) i 0 ≡ get_or (places_said bs) (a + i) 0
   place_cut i h =
-      let k : a * 2 + 2 * i ≡ 2 * (a + i) = omega arith in
-      place_at (cut bs a e) i (omega (arith, length_cut)) ∙ ap number_in (part_cut bs (e * 2 - a * 2) (a * 2) (2 * i) (omega arith) ∙ rw k)
+      let k : 2 * a + 2 * i ≡ 2 * (a + i) = omega arith in
+      place_at (cut bs a e) i (omega (arith, length_cut)) ∙ ap number_in (part_cut bs (2 * e - 2 * a) (2 * a) (2 * i) (omega arith) ∙ rw k)
       ∙ sym (place_at bs (a + i) (omega arith))
 
   -- their places are those of the whole from a up to e

@@ -15,8 +15,7 @@ use Rattle.spec.proofs.Bytes.{length_part, get_or_part}
 use Rattle.spec.proofs.Rising.{Rising, rising_facts, rising_true, rising_steps, rising_take, rising_drop}
 use Rattle.spec.proofs.Questions.{contains_absent, member_contains, rank_is, rank_le, rank_lt, rank_select, select_rank, rank_below, rank_above}
 use Rattle.search.specs.Search.{places_said, answer, index_of, shifted, AllBelow, Finds, Near}
-use Rattle.search.specs.declared.Search.{Search}
-use Rattle.search.specs.declared.Search.TheVariants.{Found, Insert}
+use Rattle.std.specs.Prelude.{Result, Ok, Err}
 use Rattle.search.proofs.PlaceLaws.{length_places, cut, length_cut, places_cut}
 
 -- ---- among which places the target is or would go
@@ -53,17 +52,17 @@ module _ (ps : List ℕ) (rises : rising 0 size ps ≡ true) {t : ℕ} (m : ℕ)
 -- ---- the answer
 
 -- where the target stands: at an index, or between two
-abbrev pub Stands : List ℕ → ℕ → Search → Type 0
-Stands ps t (Found i) = (i < length ps) × (get_or ps i 0 ≡ t)
-Stands ps t (Insert i) = (i ≤ length ps) × Near ps t i i
+abbrev pub Stands : List ℕ → ℕ → Result ℕ ℕ → Type 0
+Stands ps t (Ok i) = (i < length ps) × (get_or ps i 0 ≡ t)
+Stands ps t (Err i) = (i ≤ length ps) × Near ps t i i
 
 module _ (ps : List ℕ) (rises : rising 0 size ps ≡ true) (t : ℕ) where
-  pub stands_answer : (r : Search) → Stands ps t r → r ≡ answer t ps
-  stands_answer (Found i) s =
+  pub stands_answer : (r : Result ℕ ℕ) → Stands ps t r → r ≡ answer t ps
+  stands_answer (Ok i) s =
       let yes' : contains t ps ≡ true = rw s.1 at (member_contains i ps s.0) in
       let is : rank t ps ≡ i = rw s.1 at (rank_select 0 size ps (rising_facts 0 size ps rises) i s.0) in
       rw (yes', is)
-  stands_answer (Insert i) s =
+  stands_answer (Err i) s =
       let absent : contains t ps ≡ false =
       contains_absent t ps (λ k l e.
       by_test (ltb k i) (λ q. omega (arith, s.1.before k (ltb-true k i q))) (λ q. omega (arith, s.1.after k (ltb-false k i q) l))) in
@@ -86,32 +85,32 @@ module _ (ps : List ℕ) (rises : rising 0 size ps ≡ true) (t : ℕ) where
       ))
 
 -- what the answer says, found or not
-pub answer_found : (ps : List ℕ) (t i : ℕ) → Found i ≡ answer t ps → (contains t ps ≡ true) × (i ≡ rank t ps)
+pub answer_found : (ps : List ℕ) (t i : ℕ) → Ok i ≡ answer t ps → (contains t ps ≡ true) × (i ≡ rank t ps)
 answer_found ps t i e =
-    by_test (contains t ps) (λ q. let b : Found i ≡ Found (rank t ps) = rw q at e in (q, cc))
-    (λ q. let b : Found i ≡ Insert (rank t ps) = rw q at e in (cc, cc))
+    by_test (contains t ps) (λ q. let b : Ok i ≡ Ok (rank t ps) = rw q at e in (q, cc))
+    (λ q. let b : Ok i ≡ Err (rank t ps) = rw q at e in (cc, cc))
 
-pub answer_insert : (ps : List ℕ) (t i : ℕ) → Insert i ≡ answer t ps → (contains t ps ≡ false) × (i ≡ rank t ps)
+pub answer_insert : (ps : List ℕ) (t i : ℕ) → Err i ≡ answer t ps → (contains t ps ≡ false) × (i ≡ rank t ps)
 answer_insert ps t i e =
-    by_test (contains t ps) (λ q. let b : Insert i ≡ Found (rank t ps) = rw q at e in (cc, cc))
-    (λ q. let b : Insert i ≡ Insert (rank t ps) = rw q at e in (q, cc))
+    by_test (contains t ps) (λ q. let b : Err i ≡ Ok (rank t ps) = rw q at e in (cc, cc))
+    (λ q. let b : Err i ≡ Err (rank t ps) = rw q at e in (q, cc))
 
 module _ {bs : List ℕ} {t cursor : ℕ} where
   -- a search that stands where the target does finds it
-  pub finds : {r : Search} → index_of r ≤ length bs / 2 → (rising 0 size (places_said bs) ≡ true → AllBelow (places_said bs) t cursor → Stands (places_said bs) t r)
+  pub finds : {r : Result ℕ ℕ} → index_of r ≤ length bs / 2 → (rising 0 size (places_said bs) ≡ true → AllBelow (places_said bs) t cursor → Stands (places_said bs) t r)
       → Finds bs t cursor r
   finds {r} l s = record { inside = l; exact = λ h p. stands_answer (places_said bs) h t r (s h p) }
 
   -- where all places before an index are below the target and the one at the index is not, the answer is at the index
-  pub finds_at : (i p : ℕ) (r : Search) → i < length bs / 2 → p ≡ get_or (places_said bs) i 0 → t ≤ p
-      → (rising 0 size (places_said bs) ≡ true → AllBelow (places_said bs) t cursor → AllBelow (places_said bs) t i) → r ≡ cond (eqb p t) (Found i) (Insert i)
+  pub finds_at : (i p : ℕ) (r : Result ℕ ℕ) → i < length bs / 2 → p ≡ get_or (places_said bs) i 0 → t ≤ p
+      → (rising 0 size (places_said bs) ≡ true → AllBelow (places_said bs) t cursor → AllBelow (places_said bs) t i) → r ≡ cond (eqb p t) (Ok i) (Err i)
       → Finds bs t cursor r
   finds_at i p r l e h before is =
       let n : length (places_said bs) ≡ length bs / 2 = length_places bs in
       by_test (eqb p t)
-      (λ q. let s : r ≡ Found i = rw q at is in rw s (finds (omega arith) (λ rises known. (omega arith, sym e ∙ eqb-true p t q))))
+      (λ q. let s : r ≡ Ok i = rw q at is in rw s (finds (omega arith) (λ rises known. (omega arith, sym e ∙ eqb-true p t q))))
       (λ q.
-      let s : r ≡ Insert i = rw q at is in
+      let s : r ≡ Err i = rw q at is in
       let above : t < p = by_contra (suc t) p (λ j. eqb-false p t q (omega arith)) in
       rw s (finds (omega arith) (λ rises known.
       let near : Near (places_said bs) t i (length bs / 2) = record { before = before rises known; after = λ k a b. absurd (omega arith) } in
@@ -119,7 +118,7 @@ module _ {bs : List ℕ} {t cursor : ℕ} where
 
   -- where all places are below the target, the answer is at the end
   pub finds_end : (n : ℕ) → n ≡ length bs / 2 → (rising 0 size (places_said bs) ≡ true → AllBelow (places_said bs) t cursor → AllBelow (places_said bs) t n)
-      → Finds bs t cursor (Insert n)
+      → Finds bs t cursor (Err n)
   finds_end n e before =
       finds (omega arith) (λ rises known. (
         omega (arith, length_places bs),
@@ -127,7 +126,7 @@ module _ {bs : List ℕ} {t cursor : ℕ} where
       ))
 
   -- a search of all places is one from any cursor on
-  pub finds_all : {r : Search} → Finds bs t 0 r → Finds bs t cursor r
+  pub finds_all : {r : Result ℕ ℕ} → Finds bs t 0 r → Finds bs t cursor r
   finds_all f = record { inside = f.inside; exact = λ h p. f.exact h (λ k l. absurd (omega arith)) }
 
 -- ---- a part that has the target's place
@@ -141,11 +140,11 @@ module _ (ps : List ℕ) (t a e : ℕ) (ends : a ≤ e) (inside : e ≤ length p
   part_at k h l = let e : a + (k - a) ≡ k = omega arith in get_or_part a _ ps (k - a) (omega arith) ∙ rw e
 
   -- found or not, counted from the start of the whole, it is the same
-  narrow : Near ps t a e → (r : Search) → Stands (part a e ps) t r → Stands ps t (shifted a r)
-  narrow near (Found i) s =
+  narrow : Near ps t a e → (r : Result ℕ ℕ) → Stands (part a e ps) t r → Stands ps t (shifted a r)
+  narrow near (Ok i) s =
       let l : i < e - a = omega (arith, s.0, length_part a e ps ends inside) in
       (omega arith, sym (get_or_part a e ps i l) ∙ s.1)
-  narrow near (Insert i) s =
+  narrow near (Err i) s =
       let n : length (part a e ps) ≡ e - a = length_part a e ps ends inside in
       let l : i ≤ e - a = omega (arith, s.0) in (
         omega arith,
@@ -160,7 +159,7 @@ module _ (ps : List ℕ) (t a e : ℕ) (ends : a ≤ e) (inside : e ≤ length p
       )
 
 -- so the search of the bytes of a part, shifted, is one of the whole; the part ends at e, or at the block's end, if nearer
-pub part_finds : (bs : List ℕ) (t a e b : ℕ) (r x : Search) → b ≡ min e (length bs / 2) → a ≤ b
+pub part_finds : (bs : List ℕ) (t a e b : ℕ) (r x : Result ℕ ℕ) → b ≡ min e (length bs / 2) → a ≤ b
     → (rising 0 size (places_said bs) ≡ true → Near (places_said bs) t a e) → Finds (cut bs a b) t 0 r → x ≡ shifted a r → Finds bs t 0 x
 part_finds bs t a e b r x nearer ends near f q =
     let ps = places_said bs in
@@ -173,6 +172,6 @@ part_finds bs t a e b r x nearer ends near f q =
     let within : Near ps t a b = record { before = (near h).before; after = λ k l m. (near h).after k (omega arith) m } in
     narrow ps t a b ends (omega arith) within r (subst (Stands (part a b ps) t) (sym is) (answer_stands (part a b ps) rises t))))
   where
-    fits : (r : Search) → index_of r ≤ length (cut bs a b) / 2 → index_of (shifted a r) ≤ length bs / 2
-    fits (Found i) l = omega (arith, length_cut bs a b ends (omega arith))
-    fits (Insert i) l = omega (arith, length_cut bs a b ends (omega arith))
+    fits : (r : Result ℕ ℕ) → index_of r ≤ length (cut bs a b) / 2 → index_of (shifted a r) ≤ length bs / 2
+    fits (Ok i) l = omega (arith, length_cut bs a b ends (omega arith))
+    fits (Err i) l = omega (arith, length_cut bs a b ends (omega arith))

@@ -11,8 +11,7 @@ use Rattle.spec.specs.Set.{bit, rising}
 use Rattle.spec.specs.Layout.{size}
 use Rattle.spec.proofs.Tests.{by_test}
 use Rattle.search.specs.Search.{places_said, Near, Finds, Probed}
-use Rattle.search.specs.declared.Search.{Search}
-use Rattle.search.specs.declared.Search.TheVariants.{Found, Insert}
+use Rattle.std.specs.Prelude.{Result, Ok, Err}
 use Rattle.search.proofs.PlaceLaws.{length_places}
 use Rattle.search.proofs.SearchLaws.{near_all, near_from, near_to, finds, finds_at}
 
@@ -57,12 +56,12 @@ module _ {bs : List ℕ} {t base many : ℕ} (s : Halving bs t base many) (p : �
       (λ q. let on : base + many / 2 * m ≡ base = rw (is, q) (omega arith) in rw on (halving_down h e (leb-false p t q)))
 
   -- one place is left
-  pub halved_below : many ≤ 1 → p ≡ get_or (places_said bs) base 0 → p < t → Finds bs t 0 (Insert (base + 1))
+  pub halved_below : many ≤ 1 → p ≡ get_or (places_said bs) base 0 → p < t → Finds bs t 0 (Err (base + 1))
   halved_below m e h =
       let l : base < length (places_said bs) = omega (arith, s.some, s.inside, length_places bs) in
       finds (omega (arith, s.some, s.inside)) (λ rises known. (omega arith, near_from (places_said bs) rises (s.near rises) base l (base + 1) (base + 1) (omega arith) (omega arith) (omega arith)))
 
-  pub halved_at : (r : Search) → p ≡ get_or (places_said bs) base 0 → t ≤ p → r ≡ cond (eqb p t) (Found base) (Insert base) → Finds bs t 0 r
+  pub halved_at : (r : Result ℕ ℕ) → p ≡ get_or (places_said bs) base 0 → t ≤ p → r ≡ cond (eqb p t) (Ok base) (Err base) → Finds bs t 0 r
   halved_at r e h = finds_at base p r (omega (arith, s.some, s.inside)) e h (λ rises known. (s.near rises).before)
 
 -- ---- probes
@@ -77,23 +76,23 @@ probing_none bs t = record { inside = omega arith; near = λ rises. near_all (pl
 
 module _ {bs : List ℕ} {t left : ℕ} (s : Probing bs t left) where
   -- the probe is below the target
-  pub probing_more : (p : ℕ) → left * 2 < length bs / 2 → p ≡ get_or (places_said bs) (left * 2) 0 → p < t → Probing bs t (left * 2 + 1)
+  pub probing_more : (p : ℕ) → 2 * left < length bs / 2 → p ≡ get_or (places_said bs) (2 * left) 0 → p < t → Probing bs t (2 * left + 1)
   probing_more p l e h = record {
     inside = omega arith;
     near = λ rises.
-        near_from (places_said bs) rises (s.near rises) (left * 2) (omega (arith, length_places bs)) (left * 2 + 1) (length bs / 2) (omega arith) (omega arith)
+        near_from (places_said bs) rises (s.near rises) (2 * left) (omega (arith, length_places bs)) (2 * left + 1) (length bs / 2) (omega arith) (omega arith)
         (omega arith);
   }
 
   -- it is not
-  pub probed : (p : ℕ) → left * 2 < length bs / 2 → p ≡ get_or (places_said bs) (left * 2) 0 → t ≤ p → Probed bs t left
+  pub probed : (p : ℕ) → 2 * left < length bs / 2 → p ≡ get_or (places_said bs) (2 * left) 0 → t ≤ p → Probed bs t left
   probed p l e h = record {
     inside = s.inside;
-    exact = λ rises. near_to (places_said bs) rises (s.near rises) (left * 2) (omega (arith, length_places bs)) (2 * left + 1) (omega arith) (omega arith);
+    exact = λ rises. near_to (places_said bs) rises (s.near rises) (2 * left) (omega (arith, length_places bs)) (2 * left + 1) (omega arith) (omega arith);
   }
 
   -- there is none left
-  pub probed_all : length bs / 2 ≤ left * 2 → Probed bs t left
+  pub probed_all : length bs / 2 ≤ 2 * left → Probed bs t left
   probed_all l = record {
     inside = s.inside;
     exact = λ rises. record { before = (s.near rises).before; after = λ k j j'. absurd (omega (arith, length_places bs)) };

@@ -1,49 +1,43 @@
-// Searches of a sparse block's places, 16-bit numbers, ascending. Of any bytes they give an index of the places that these say, or the
-// end; of places that rise, where the target is or would go.
+// Searches of a sparse block's places, 16-bit numbers, ascending. As std's binary_search they answer where the target is found, or
+// where it would go: of places that rise, exactly, and of any bytes with an index of the places that these say, or the end.
 #![tactic(auto)]
 
-ghost use Rattle.std.specs.Prelude.{◌≡◌, cond, ◌+◌, ◌/◌, ◌^◌, ◌≤◌, ◌<◌, min, leb, eqb, length, get_or};
+ghost use Rattle.std.specs.Prelude.{◌≡◌, cond, ◌+◌, ◌/◌, ◌^◌, ◌≤◌, ◌<◌, leb, eqb, length, get_or, Ok, Err};
 ghost use Rattle.spec.specs.Set.{bit};
 ghost use Rattle.search.specs.Search.{places_said, index_of, shifted, Finds, Probed};
 
-// Where a place is found, or where it would go.
-#[derive(Clone, Copy)]
-pub enum Search {
-    Found(usize),
-    Insert(usize),
-}
-
 // Every place, by halves: places before base are below the target, those from base + size on are above it.
-pub fn binary_search(part: &[u8], target: u16) -> Search
+// std's search, of chunks of two bytes, jumps on each half: more than twice as slow.
+pub fn binary_search(part: &[u8], target: u16) -> Result<usize, usize>
     ensures { Finds part.now target 0 result }
 {
-    if part.len() < 2 {
-        return Search::Insert(0);
-    }
     let mut base = 0;
     let mut size = part.len() / 2;
+    if size == 0 {
+        return Err(0);
+    }
     while 1 < size {
         let half = size / 2;
         let p = value_at_idx(part, base + half);
-        base = base + half * not_above(p, target);
-        size = size - half;
+        base += half * not_above(p, target);
+        size -= half;
     }
     let p = value_at_idx(part, base);
     if p < target {
-        return Search::Insert(base + 1);
+        return Err(base + 1);
     }
     answer_at(base, p, target)
 }
 
 // The search from a cursor on, where every place before it is below the target: the place at the cursor, then the next one, and
 // where that is below the target too, the narrowed search.
-pub fn from_cursor(part: &[u8], cursor: usize, target: u16) -> Search
+pub fn from_cursor(part: &[u8], cursor: usize, target: u16) -> Result<usize, usize>
     requires { cursor ≤ length part.now / 2 }
     ensures { Finds part.now target cursor result }
 {
     let n = part.len() / 2;
     if cursor == n {
-        return Search::Insert(n);
+        return Err(n);
     }
     let p = value_at_idx(part, cursor);
     if target <= p {
@@ -51,23 +45,13 @@ pub fn from_cursor(part: &[u8], cursor: usize, target: u16) -> Search
     }
     let next = cursor + 1;
     if next == n {
-        return Search::Insert(n);
+        return Err(n);
     }
     let q = value_at_idx(part, next);
     if target <= q {
         return answer_at(next, q, target);
     }
     narrowed_search(part, next, (target - q) as usize, target)
-}
-
-// The index that a search gives, found or not.
-pub fn index(r: Search) -> usize
-    ensures { result ≡ index_of r }
-{
-    match r {
-        Search::Found(i) => i,
-        Search::Insert(i) => i,
-    }
 }
 
 // Place i of a block that has more than i.
@@ -80,26 +64,22 @@ pub fn value_at_idx(part: &[u8], i: usize) -> u16
 
 // The search after the cursor, whose place is below the target by gap. Places are distinct and rise, so the one gap places on is at
 // least gap more, and the search is handed no more than these.
-fn narrowed_search(part: &[u8], cursor: usize, gap: usize, target: u16) -> Search
+fn narrowed_search(part: &[u8], cursor: usize, gap: usize, target: u16) -> Result<usize, usize>
     requires { (cursor < length part.now / 2) × (0 < gap) × (get_or (places_said part.now) cursor 0 + gap ≡ target) }
     ensures { Finds part.now target 0 result }
 {
     let left = cursor + 1;
-    let right = nearer(left + gap, part.len() / 2);
-    let from = left * 2;
-    let to = right * 2;
-    shift(left, exponential_search(&part[from..to], target))
+    let right = (left + gap).min(part.len() / 2);
+    shift(left, exponential_search(&part[2 * left..2 * right], target))
 }
 
 // Every place, quickest for a target near the start: the part that the probes leave, by halves.
-fn exponential_search(part: &[u8], target: u16) -> Search
+fn exponential_search(part: &[u8], target: u16) -> Result<usize, usize>
     ensures { Finds part.now target 0 result }
 {
     let left = probe(part, target);
-    let right = nearer(2 * left + 1, part.len() / 2);
-    let from = left * 2;
-    let to = right * 2;
-    shift(left, binary_search(&part[from..to], target))
+    let right = (2 * left + 1).min(part.len() / 2);
+    shift(left, binary_search(&part[2 * left..2 * right], target))
 }
 
 // Probes places 0, 2, 6, 14, .. until one is not below the target: how many places before it are known to be below, which is half
@@ -109,50 +89,36 @@ fn probe(part: &[u8], target: u16) -> usize
 {
     let n = part.len() / 2;
     let mut left = 0;
-    while left * 2 < n {
-        let at = left * 2;
-        if target <= value_at_idx(part, at) {
-            return left;
-        }
-        left = at + 1;
+    while 2 * left < n && value_at_idx(part, 2 * left) < target {
+        left = 2 * left + 1;
     }
     left
 }
 
-// An answer of the search of a part, counted from the start of the whole.
-fn shift(n: usize, r: Search) -> Search
+// An answer of the search of a part, counted from the start of the whole. By a match: std's map, then map_err, tests which it is more
+// than once, by which a search from a cursor takes up to a tenth longer.
+fn shift(n: usize, r: Result<usize, usize>) -> Result<usize, usize>
     requires { n + index_of r < 2 ^ 64 }
     ensures { result ≡ shifted n r }
 {
     match r {
-        Search::Found(i) => Search::Found(n + i),
-        Search::Insert(i) => Search::Insert(n + i),
+        Ok(i) => Ok(n + i),
+        Err(i) => Err(n + i),
     }
 }
 
-// The answer at an index whose place is not below the target, where every place before it is.
-fn answer_at(i: usize, p: u16, target: u16) -> Search
-    ensures { result ≡ cond (eqb p target) (Search.Found i) (Search.Insert i) }
+// The answer at an index whose place is not below the target, where every place before it is. By tests: from a match on p.cmp(&target)
+// LLVM makes more code, up to a third slower.
+fn answer_at(i: usize, p: u16, target: u16) -> Result<usize, usize>
+    ensures { result ≡ cond (eqb p target) (Ok i) (Err i) }
 {
-    if p == target {
-        return Search::Found(i);
-    }
-    Search::Insert(i)
+    if p == target { Ok(i) } else { Err(i) }
 }
 
-// 1 where a place is not above the target, and 0 where it is: by a difference and no test, since nothing foretells which way a test
-// in a search goes.
+// 1 where a place is not above the target, and 0 where it is: by a difference, since LLVM makes a jump of usize::from(p <= target), and
+// nothing foretells in a search which way it goes: more than twice as slow.
 fn not_above(p: u16, target: u16) -> usize
     ensures { result ≡ bit (leb p target) }
 {
-    ((target as u32 + 65536 - p as u32) / 65536) as usize
-}
-
-fn nearer(a: usize, b: usize) -> usize
-    ensures { result ≡ min a b }
-{
-    if a < b {
-        return a;
-    }
-    b
+    (target as usize + 65536 - p as usize) / 65536
 }

@@ -11,8 +11,7 @@ use Rattle.spec.proofs.Rising.{rising_facts}
 use Rattle.spec.proofs.Questions.{rank_below}
 use Rattle.words.specs.Part.{NeverFalls, InBlock, Batched}
 use Rattle.search.specs.Search.{places_said, answer, index_of, AllBelow, Finds}
-use Rattle.search.specs.declared.Search.{Search}
-use Rattle.search.specs.declared.Search.TheVariants.{Found, Insert}
+use Rattle.std.specs.Prelude.{Result, Ok, Err}
 use Rattle.sparse.proofs.PlaceLaws.{held}
 use Rattle.search.proofs.SearchLaws.{answer_found, answer_insert}
 use Rattle.words.proofs.RowLaws.{rows_from, row_contains, row_rank}
@@ -31,7 +30,7 @@ asking_none bs qs base first rows ranks =
     record { filled = filling_none _ _ qs _ rows ranks; inside = omega arith; passed = λ rises j l m k h. absurd (omega arith) }
 
 module _ {bs qs rows₀ ranks₀ rows ranks : List ℕ} {base first n cursor i : ℕ} (a : Asking bs qs base first rows₀ ranks₀ rows ranks n cursor i)
-    (order : NeverFalls qs) (block : InBlock base qs) (h : i < length qs) {r : Search} (f : Finds bs (get_or qs i 0 - base) cursor r) where
+    (order : NeverFalls qs) (block : InBlock base qs) (h : i < length qs) {r : Result ℕ ℕ} (f : Finds bs (get_or qs i 0 - base) cursor r) where
   from : base ≤ get_or qs i 0
   from = (block i h).0
 
@@ -48,7 +47,7 @@ module _ {bs qs rows₀ ranks₀ rows ranks : List ℕ} {base first n cursor i :
         order i j (omega arith) m,
       )
 
-  pub asking_hit : (at x : ℕ) → r ≡ Found at → x ≡ (first + at) % 2 ^ 32
+  pub asking_hit : (at x : ℕ) → r ≡ Ok at → x ≡ (first + at) % 2 ^ 32
       → Asking bs qs base first rows₀ ranks₀ (set rows n (get_or qs i 0)) (set ranks n x) (n + 1) at (i + 1)
   asking_hit at x e q = record {
     filled = filling_hit a.filled x h (λ rises. (row_contains base (get_or qs i 0) (places_said bs) from ∙ (found rises).0, q ∙ ap (λ k. (first + k) % 2 ^ 32) ((found rises).1 ∙ sym (row_rank base (get_or qs i 0) (places_said bs) from))));
@@ -59,7 +58,7 @@ module _ {bs qs rows₀ ranks₀ rows ranks : List ℕ} {base first n cursor i :
       found : rising 0 size (places_said bs) ≡ true → (contains (get_or qs i 0 - base) (places_said bs) ≡ true) × (at ≡ rank (get_or qs i 0 - base) (places_said bs))
       found rises = answer_found (places_said bs) (get_or qs i 0 - base) at (sym e ∙ says rises)
 
-  pub asking_miss : (at : ℕ) → r ≡ Insert at → Asking bs qs base first rows₀ ranks₀ rows ranks n at (i + 1)
+  pub asking_miss : (at : ℕ) → r ≡ Err at → Asking bs qs base first rows₀ ranks₀ rows ranks n at (i + 1)
   asking_miss at e = record {
     filled = filling_miss a.filled h (λ rises. row_contains base (get_or qs i 0) (places_said bs) from ∙ (absent rises).0);
     inside = omega (arith, f.inside, ap index_of e);

@@ -2,6 +2,7 @@
 use Prim.Native.Nat.{ℕ, ◌/◌, ◌%◌, ◌^◌, ◌≤◌, ◌<◌}
 use mathlib.Core.Path.{◌≡◌, sym, ap, ap₂, ◌∙◌}
 use mathlib.Core.Bool.{true, false}
+use mathlib.Core.Logic.{◌⊎◌, inl, inr}
 use mathlib.Core.List.{List}
 use native.Mathlib.Omega.{arith}
 use mathlib.Core.Option.{some, none}
@@ -14,13 +15,16 @@ use Rattle.spec.proofs.Rising.{rising_facts, rising_length}
 use Rattle.spec.proofs.Questions.{rank_le, next_select}
 use Rattle.words.specs.Part.{Holds}
 use Rattle.search.specs.Search.{places_said, answer, index_of, Finds}
-use Rattle.search.specs.declared.Search.{Search}
-use Rattle.search.specs.declared.Search.TheVariants.{Found, Insert}
+use Rattle.std.specs.Prelude.{Result, Ok, Err, is_ok}
 use Rattle.search.proofs.PlaceLaws.{length_places}
 use Rattle.sparse.proofs.PlaceLaws.{held}
 use Rattle.search.proofs.SearchLaws.{answer_found, answer_insert}
 
-module _ {bs : List ℕ} {t : ℕ} {r : Search} (sparse : length bs ≡ 10240 → ⊥) (f : Finds bs t 0 r) (ps : List ℕ) (d : Holds bs ps) where
+-- the index, found or not
+pub index_is : {r : Result ℕ ℕ} {i : ℕ} → (r ≡ Ok i) ⊎ (r ≡ Err i) → i ≡ index_of r
+index_is w = elim w [ inl e ↦ sym (ap index_of e) | inr e ↦ sym (ap index_of e) ]
+
+module _ {bs : List ℕ} {t : ℕ} {r : Result ℕ ℕ} (sparse : length bs ≡ 10240 → ⊥) (f : Finds bs t 0 r) (ps : List ℕ) (d : Holds bs ps) where
   says : r ≡ answer t ps
   says = let e = held bs ps sparse d in f.exact (rw e d.rises) (λ k l. absurd (omega arith)) ∙ ap (answer t) e
 
@@ -28,11 +32,15 @@ module _ {bs : List ℕ} {t : ℕ} {r : Search} (sparse : length bs ≡ 10240 �
   pub index_rank : index_of r ≡ rank t ps
   index_rank = ap index_of says ∙ by_test (contains t ps) (λ q. rw q) (λ q. rw q)
 
+  -- whether it is found says whether the place is there
+  pub is_there : is_ok r ≡ contains t ps
+  is_there = ap is_ok says ∙ by_test (contains t ps) (λ q. rw q) (λ q. rw q)
+
   -- of a place that is found or not, by what the search says
-  pub found_there : {i : ℕ} → r ≡ Found i → true ≡ contains t ps
+  pub found_there : {i : ℕ} → r ≡ Ok i → true ≡ contains t ps
   found_there {i} e = sym (answer_found ps t i (sym e ∙ says)).0
 
-  pub insert_absent : {i : ℕ} → r ≡ Insert i → false ≡ contains t ps
+  pub insert_absent : {i : ℕ} → r ≡ Err i → false ≡ contains t ps
   insert_absent {i} e = sym (answer_insert ps t i (sym e ∙ says)).0
 
   -- in 32 bits too

@@ -8,17 +8,12 @@ ghost use Rattle.spec.specs.Layout.{size, sparse_data};
 ghost use Rattle.spec.specs.Reading.{is_content};
 ghost use Rattle.words.specs.Part.{Of, placed, Inside, NeverFalls, InBlock, Batched, Paged};
 
-use search::Search;
-
 // Whether a place is in the block.
 pub fn contains(part: &[u8], place: u16) -> bool
     requires { length part.now ≡ 10240 → ⊥ }
     ensures { Of part.now (λ ps. result ≡ contains place ps) }
 {
-    match search::binary_search(part, place) {
-        Search::Found(_) => true,
-        Search::Insert(_) => false,
-    }
+    search::binary_search(part, place).is_ok()
 }
 
 // How many of the block's places are below a place.
@@ -26,7 +21,8 @@ pub fn rank(part: &[u8], place: u16) -> u32
     requires { length part.now ≡ 10240 → ⊥ }
     ensures { Of part.now (λ ps. result ≡ rank place ps) }
 {
-    to_u32(search::index(search::binary_search(part, place)))
+    let (Ok(i) | Err(i)) = search::binary_search(part, place);
+    to_u32(i)
 }
 
 // The rank of a place, if it is in the block.
@@ -35,8 +31,8 @@ pub fn lookup(part: &[u8], place: u16) -> Option<u32>
     ensures { Of part.now (λ ps. placed result ≡ lookup place ps) }
 {
     match search::binary_search(part, place) {
-        Search::Found(i) => Some(to_u32(i)),
-        Search::Insert(_) => None,
+        Ok(i) => Some(to_u32(i)),
+        Err(_) => None,
     }
 }
 
@@ -59,7 +55,7 @@ pub fn next(part: &[u8], place: u16) -> Option<u32>
     ensures inside { Inside result }
     ensures exact { Of part.now (λ ps. placed result ≡ next place ps) }
 {
-    let i = search::index(search::binary_search(part, place));
+    let (Ok(i) | Err(i)) = search::binary_search(part, place);
     if i < part.len() / 2 {
         return Some(search::value_at_idx(part, i) as u32);
     }
@@ -76,10 +72,8 @@ pub fn content_ok(part: &[u8], rows: u32, end: u32) -> bool
     }
     let last = rows as usize - 1;
     let mut ok = true;
-    let mut i = 0;
-    while i < last {
-        ok = ok & (search::value_at_idx(part, i) < search::value_at_idx(part, i + 1));
-        i += 1;
+    for i in 0..last {
+        ok &= search::value_at_idx(part, i) < search::value_at_idx(part, i + 1);
     }
     ok & ((search::value_at_idx(part, last) as u32) < end)
 }
@@ -89,11 +83,8 @@ pub fn write(rows: &[u32], out: &mut [u8])
     requires { length out.old ≡ 2 * length rows.now }
     ensures { out.new ≡ sparse_data (map (λ r. r % size) rows.now) }
 {
-    let mut i = 0;
-    while i < rows.len() {
-        let place = (rows[i] % 65536) as u16;
-        words::le::put_u16(out, 2 * i, place);
-        i += 1;
+    for (i, row) in rows.iter().enumerate() {
+        words::le::put_u16(out, 2 * i, (*row % 65536) as u16);
     }
 }
 
@@ -115,18 +106,15 @@ pub fn batch(
 {
     let mut n = 0;
     let mut cursor = 0;
-    let mut i = 0;
-    while i < questions.len() {
-        let row = questions[i];
-        i += 1;
-        match search::from_cursor(part, cursor, (row - base) as u16) {
-            Search::Found(at) => {
-                rows[n] = row;
+    for row in questions {
+        match search::from_cursor(part, cursor, (*row - base) as u16) {
+            Ok(at) => {
+                rows[n] = *row;
                 ranks[n] = ((first as u64 + at as u64) % 4294967296) as u32;
                 n += 1;
                 cursor = at;
             }
-            Search::Insert(next) => {
+            Err(next) => {
                 cursor = next;
             }
         }
@@ -148,10 +136,8 @@ pub fn page(part: &[u8], base: u32, from: u32, out: &mut [u32])
     if places - start < out.len() {
         return;
     }
-    let mut j = 0;
-    while j < out.len() {
-        out[j] = base + search::value_at_idx(part, start + j) as u32;
-        j += 1;
+    for (j, row) in out.iter_mut().enumerate() {
+        *row = base + search::value_at_idx(part, start + j) as u32;
     }
 }
 

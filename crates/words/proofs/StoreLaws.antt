@@ -1,10 +1,10 @@
 -- Lists stored at an index: one behind another, two that do not meet, and a part that was lent and comes back.
 use Prim.Native.Nat.{ℕ, suc, ◌+◌, ◌≤◌, ◌<◌}
 use mathlib.Core.Path.{◌≡◌, refl, sym, ap, ◌∙◌}
-use mathlib.Core.List.{List, [], ◌∷◌, ◌++◌, append_assoc}
+use mathlib.Core.List.{List, [], ◌∷◌, ◌++◌, append_assoc, append-nil}
 use native.Mathlib.Nat.{add-zero}
 use native.Mathlib.Omega.{arith}
-use lib.ListN.{length, set, take, drop}
+use lib.ListN.{length, set, take, drop, drop_of_length-le}
 use lib.Seq.{sets, sets-eq, set_comm, drop-drop}
 
 pub sets_append : (x y l : List ℕ) (i j : ℕ) → i + length x ≡ j → sets l i (x ++ y) ≡ sets (sets l i x) j y
@@ -30,3 +30,7 @@ part_back x l a k e h =
 -- a list stored at the front
 pub sets_front : (x l : List ℕ) → length x ≤ length l → sets l 0 x ≡ x ++ drop (length x) l
 sets_front x l h = let e : 0 + length x ≡ length x = omega arith in sets-eq x l 0 (omega arith) ∙ ap (λ k. x ++ drop k l) e
+
+-- a list stored over another that is as long
+pub sets_whole : (x l : List ℕ) → length x ≡ length l → sets l 0 x ≡ x
+sets_whole x l h = sets_front x l (omega arith) ∙ ap (λ r. x ++ r) (drop_of_length-le l (omega arith)) ∙ append-nil x

@@ -9,15 +9,12 @@ pub const LIMIT: u32 = 4294901760;
 pub fn block_count(row_count: u32) -> usize
     ensures { result ≡ count_of_blocks row_count }
 {
-    (row_count as usize + 65535) / 65536
+    (row_count as usize).div_ceil(65536)
 }
 
 // The data bytes of a block of n rows.
 pub fn data_size(n: usize) -> usize
     ensures { result ≡ size_of_data n }
 {
-    if n < 5120 {
-        return 2 * n;
-    }
-    10240
+    if n < 5120 { 2 * n } else { 10240 }
 }

@@ -23,25 +23,19 @@ pub enum CountFault {
 pub fn read(s: &[u8]) -> Result<RowCount, CountFault>
     ensures { result ≡ count_in (ungroups 5 s.now) s.now }
 {
-    let mut count: u64 = 0;
-    let mut weight: u64 = 1;
-    let mut i = 0;
-    while i < 5 {
-        if s.len() <= i {
-            return Err(CountFault::Unended);
-        }
-        let b = s[i] as u64;
-        i += 1;
-        count = count + b % 128 * weight;
+    let mut count = 0;
+    let mut weight = 1;
+    for (i, byte) in s.iter().take(5).enumerate() {
+        let start = i + 1;
+        let b = *byte as u64;
+        count += b % 128 * weight;
         if 128 <= b {
-            if 1 < i {
-                if b == 128 {
-                    return Err(CountFault::Padded);
-                }
+            if 1 < start && b == 128 {
+                return Err(CountFault::Padded);
             }
-            return Ok(RowCount { count, start: i });
+            return Ok(RowCount { count, start });
         }
-        weight = weight * 128;
+        weight *= 128;
     }
     Err(CountFault::Unended)
 }
@@ -50,19 +44,13 @@ pub fn read(s: &[u8]) -> Result<RowCount, CountFault>
 pub fn size(count: u32) -> usize
     ensures { result ≡ length (groups 4 count) }
 {
-    if count < 128 {
-        return 1;
+    match count {
+        ..128 => 1,
+        ..16384 => 2,
+        ..2097152 => 3,
+        ..268435456 => 4,
+        _ => 5,
     }
-    if count < 16384 {
-        return 2;
-    }
-    if count < 2097152 {
-        return 3;
-    }
-    if count < 268435456 {
-        return 4;
-    }
-    5
 }
 
 // The shortest form, written to the front of out; its length.
@@ -75,7 +63,7 @@ pub fn write(out: &mut [u8], count: u32) -> usize
     let mut i = 0;
     while 128 <= rest {
         out[i] = (rest % 128) as u8;
-        rest = rest / 128;
+        rest /= 128;
         i += 1;
     }
     out[i] = (rest + 128) as u8;

@@ -3,16 +3,15 @@ ghost use Rattle.std.specs.Prelude.{◌≡◌, ◌≤◌};
 ghost use Rattle.spec.specs.Reading.{entry_in};
 ghost use Rattle.spec.specs.Layout.{entry_bytes};
 
+use crate::le;
 use spec::Entry;
 
 pub fn from_bytes(data: [u8; 4]) -> Entry
     ensures { result ≡ entry_in «data» }
 {
-    let number = crate::le::u16_at(&data, 0);
-    let less_one = crate::le::u16_at(&data, 2);
     Entry {
-        number,
-        rows: less_one as u32 + 1,
+        number: le::u16_at(&data, 0),
+        rows: le::u16_at(&data, 2) as u32 + 1,
     }
 }
 
@@ -20,10 +19,8 @@ pub fn to_bytes(entry: Entry) -> [u8; 4]
     requires { (1 ≤ entry.rows) × (entry.rows ≤ 65536) }
     ensures { result ≡ entry_bytes entry }
 {
-    let number = entry.number;
-    let less_one = (entry.rows - 1) as u16;
     let mut out = [0u8; 4];
-    crate::le::put_u16(&mut out, 0, number);
-    crate::le::put_u16(&mut out, 2, less_one);
+    le::put_u16(&mut out, 0, entry.number);
+    le::put_u16(&mut out, 2, (entry.rows - 1) as u16);
     out
 }

@@ -10,11 +10,8 @@ pub fn read(s: &[u8], i: usize, w: usize) -> u64
     ensures { result ≡ number_in (part i (i + w) s.now) }
 {
     let mut n: u64 = 0;
-    let mut k = w;
-    while 0 < k {
-        k -= 1;
-        let b = s[i + k] as u64;
-        n = b + 256 * n;
+    for byte in s[i..i + w].iter().rev() {
+        n = *byte as u64 + 256 * n;
     }
     n
 }
@@ -25,11 +22,9 @@ pub fn write(d: &mut [u8], i: usize, w: usize, n: u64)
     ensures { d.new ≡ sets d.old i (bytes_of w n) }
 {
     let mut rest = n;
-    let mut k = 0;
-    while k < w {
-        d[i + k] = (rest % 256) as u8;
-        rest = rest / 256;
-        k += 1;
+    for byte in d[i..i + w].iter_mut() {
+        *byte = (rest % 256) as u8;
+        rest /= 256;
     }
 }
 

@@ -16,9 +16,5 @@ pub fn copy(s: &[u8], a: usize, d: &mut [u8], b: usize, w: usize)
     requires { (a + w ≤ length s.now) × (b + w ≤ length d.old) }
     ensures { d.new ≡ sets d.old b (part a (a + w) s.now) }
 {
-    let mut k = 0;
-    while k < w {
-        d[b + k] = s[a + k];
-        k += 1;
-    }
+    d[b..b + w].copy_from_slice(&s[a..a + w]);
 }

@@ -9,8 +9,8 @@ use lib.ListN.{length, take, drop}
 use lib.Seq.{take_at}
 use lib.Dec.{ltb}
 use borrow.Author.Tests.{ltb-false}
-use Rattle.spec.specs.declared.Count.{Count}
-use Rattle.spec.specs.declared.Count.TheVariants.{Is}
+use Rattle.std.specs.Prelude.{Result, Ok}
+use Rattle.spec.specs.declared.Refusal.{Refusal}
 use Rattle.spec.specs.Layout.{blocks, rows_of, file_of}
 use Rattle.spec.specs.Reading.{limit, Permitted, holds, verdict}
 use Rattle.spec.specs.Answers.{Said, value, unless, whenever, counted, row_fault, say_write, WriteOwes}
@@ -50,20 +50,20 @@ say_length count room n rows e =
 
 -- ---- the call
 
-module _ (count : ℕ) (rows out out' : List ℕ) (r : Count) (w : WriteOwes count rows out (counted r, out')) where
+module _ (count : ℕ) (rows out out' : List ℕ) (r : Result ℕ Refusal) (w : WriteOwes count rows out (counted r, out')) where
   answer : counted r ≡ say_write count rows (length out)
   answer = ap (λ o. o.0) w
 
   -- strictly increasing rows below a permitted row count, given room, write to one byte string: its length is the answer, and the rest stays
   pub writes : Permitted count rows → length (file_of count rows) ≤ length out
-      → (r ≡ Is (length (file_of count rows))) × (out' ≡ file_of count rows ++ drop (length (file_of count rows)) out)
+      → (r ≡ Ok (length (file_of count rows))) × (out' ≡ file_of count rows ++ drop (length (file_of count rows)) out)
   writes p h =
       let N = length (file_of count rows) in
       let v = answer ∙ write_fits count (length out) p.limited rows (rising_facts 0 count rows p.rises) h in
-      (counted_one r (Is N) v, write_lays count N rows out (counted r, out') w v)
+      (counted_one r (Ok N) v, write_lays count N rows out (counted r, out') w v)
 
   -- an answer that is a length n: these rows may be written, and the first n bytes are accepted and give back row count and set
-  pub accepted : (n : ℕ) → r ≡ Is n
+  pub accepted : (n : ℕ) → r ≡ Ok n
       → Permitted count rows × (take n out' ≡ file_of count rows) × (verdict (take n out') ≡ holds (head_of count) (blocks rows)) × (rows_of (blocks rows) ≡ rows)
   accepted n e =
       let s = say_length count (length out) n rows (sym answer ∙ ap counted e) in

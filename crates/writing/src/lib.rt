@@ -9,19 +9,17 @@ ghost use Rattle.spec.specs.Reading.{Permitted, size_of_data};
 ghost use Rattle.spec.specs.Answers.{WriteOwes, counted};
 ghost use Rattle.rows.specs.Runs.{ascends, places};
 
-use spec::{Count, Done, Entry, Refusal};
+use spec::{Count, Entry, Refusal};
 
 // The file of the rows, at the front of out, which otherwise stays; its length.
 pub fn write(row_count: u32, rows: &[u32], out: &mut [u8]) -> Count
     ensures { WriteOwes row_count rows.now out.old (counted result, out.new) }
 {
-    if 4294901760 < row_count {
-        return Count::Refused(Refusal::Rows);
+    if words::block::LIMIT < row_count {
+        return Err(Refusal::Rows);
     }
-    match rows::fault(row_count, rows) {
-        Done::Refused(e) => Count::Refused(e),
-        Done::Yes => put_file(row_count, rows, out),
-    }
+    rows::fault(row_count, rows)?;
+    put_file(row_count, rows, out)
 }
 
 // The same, of rows that may be written.
@@ -34,12 +32,12 @@ fn put_file(row_count: u32, rows: &[u32], out: &mut [u8]) -> Count
     let entries = start + shape.data;
     let last = entries + 4 * shape.entries;
     if out.len() < last + 2 {
-        return Count::Refused(Refusal::Room);
+        return Err(Refusal::Room);
     }
     words::count::write(out, row_count);
     put_blocks(out, start, entries, rows);
     words::le::put_u16(out, last, shape.entries as u16);
-    Count::Is(last + 2)
+    Ok(last + 2)
 }
 
 // The data of all blocks, stored from at on, and their entries, stored from to on.

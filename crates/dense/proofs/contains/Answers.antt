@@ -6,4 +6,4 @@ use Rattle.dense.proofs.contains.Goals as goal
 pub returns : goal.returns
 returns c =
     λ ps h. c.get_bit_at.ensures
-    ∙ contains_stored c.requires c.args.place (omega arith) c.read-word.ensures ps h
+    ∙ contains_stored c.told-part c.args.place (omega arith) c.read-word.ensures ps h

@@ -4,7 +4,7 @@ use Rattle.dense.proofs.ContentLaws.{none_checked, seen_le, all_checked, wrong_c
 use Rattle.dense.proofs.content_ok.Goals as goal
 
 pub loop-m-init : goal.loop-m-init
-loop-m-init c = let a = c.args in none_checked a.part.now a.rows a.end c.requires.limits.0
+loop-m-init c = let a = c.args in none_checked a.part.now a.rows a.end c.requires.0
 
 pub returns-then-x-seen : goal.returns-then-x-seen
 returns-then-x-seen c = wrong_count c.loop-m.invariant (omega arith) c.mini_block-x.ensures c.if-x-seen.true

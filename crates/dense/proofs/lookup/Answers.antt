@@ -9,15 +9,15 @@ pub returns-then-get_bit_at : goal.returns-then-get_bit_at
 returns-then-get_bit_at c =
     let x = c.mini_block-m in
     λ ps h.
-    let there = sym (contains_stored c.requires c.args.place (omega arith) x.ensures.word ps h)
+    let there = sym (contains_stored c.told-part c.args.place (omega arith) x.ensures.word ps h)
     ∙ sym c.get_bit_at.ensures ∙ c.if-get_bit_at.true in
-    ap some (ap (λ n. x.result.rank + n) c.rank_u64.ensures ∙ rank_stored c.requires c.args.place (omega arith) x.ensures ps h)
+    ap some (ap (λ n. x.result.rank + n) c.rank_u64.ensures ∙ rank_stored c.told-part c.args.place (omega arith) x.ensures ps h)
     ∙ sym (lookup_member c.args.place ps there)
 
 pub returns : goal.returns
 returns c =
     let x = c.mini_block-m in
     λ ps h.
-    let absent = sym (contains_stored c.requires c.args.place (omega arith) x.ensures.word ps h)
+    let absent = sym (contains_stored c.told-part c.args.place (omega arith) x.ensures.word ps h)
     ∙ sym c.get_bit_at.ensures ∙ c.if-get_bit_at.false in
     sym (lookup_absent c.args.place ps absent)

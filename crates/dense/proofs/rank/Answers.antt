@@ -6,4 +6,4 @@ use Rattle.dense.proofs.rank.Goals as goal
 pub returns : goal.returns
 returns c =
     let x = c.mini_block-m in
-    λ ps h. ap (λ n. x.result.rank + n) c.rank_u64.ensures ∙ rank_stored c.requires c.args.place (omega arith) x.ensures ps h
+    λ ps h. ap (λ n. x.result.rank + n) c.rank_u64.ensures ∙ rank_stored c.told-part c.args.place (omega arith) x.ensures ps h

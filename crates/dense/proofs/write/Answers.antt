@@ -40,9 +40,6 @@ gather-g-requires-2 c = (omega arith, c.requires.rows_rise, (at_last c.loop-m.in
 pub put-requires-2 : goal.put-requires-2
 put-requires-2 c = (c.loop-m.invariant.long, omega arith)
 
-pub overflow_cast-g : goal.overflow_cast-g
-overflow_cast-g c = omega (arith, ones-le 64 c.gather-g-2.result.word (omega arith))
-
 pub shape_of-out : goal.shape_of-out
 shape_of-out c =
     c.put-2.auto.out ∙ c.loop-m.invariant.long
@@ -56,4 +53,4 @@ returns c =
     let ps = places c.args.rows.now in
     let f = at_last l.invariant (omega arith) in
     let all = all_filled (rising_facts 0 size ps c.requires.rows_rise) f g.ensures p.ensures refl in
-    record { wrote = all.0; total = c.wrapping_add_u16.ensures.value ∙ ap (λ n. n % 2 ^ 16) (all.1 ∙ length-map c.args.rows.now (λ r. r % size)) }
+    record { wrote = all.0; total = ap (λ n. n % 2 ^ 16) (all.1 ∙ length-map c.args.rows.now (λ r. r % size)) }

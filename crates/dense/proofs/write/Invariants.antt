@@ -1,11 +1,7 @@
 -- `write` meets its contract. The loop's invariant: the mini-blocks so far are written, and the running count and the index are their places.
-use Rattle.std.proofs.Common.{◌-◌}
 use Rattle.mini.specs.Mini.{places}
 use Rattle.dense.proofs.WriteLaws.{Filling}
 use Rattle.dense.proofs.write.Given as goal
 
 abbrev pub invariant-loop-m : goal.invariant-loop-m
 invariant-loop-m l = Filling (places l.rows) l.out l.before l.i l.m
-
-abbrev pub decreases-loop-m : goal.decreases-loop-m
-decreases-loop-m l = 1023 - l.m

@@ -9,4 +9,4 @@ pub returns : goal.returns
 returns c =
     let a = c.args in
     c.copy.ensures
-    ∙ ap (sets a.out.now (10 * a.m)) (part_mini (record { bitvec = a.word; rank = a.before }) _ c.to_bytes-ten.ensures)
+    ∙ ap (sets a.out.now (10 * a.m)) (part_mini (record { bitvec = a.word; rank = a.before }) _ c.to_bytes.ensures)

@@ -5,8 +5,6 @@ use Rattle.spec.specs.Answers.{directory_in}
 use Rattle.opening.proofs.FillLaws.{Filling}
 use Rattle.opening.proofs.fill.Given as goal
 
-abbrev pub invariant-loop-left : goal.invariant-loop-left
-invariant-loop-left l = Filling l.initial.directory l.bytes l.row_count (sets l.initial.directory 0 (directory_in (verdict l.bytes))) l.directory l.block l.rows l.size l.at l.left
-
-abbrev pub decreases-loop-left : goal.decreases-loop-left
-decreases-loop-left l = l.left
+abbrev pub invariant-loop-four : goal.invariant-loop-four
+invariant-loop-four l =
+    Filling l.initial.directory l.four-items l.row_count (sets l.initial.directory 0 (directory_in (verdict l.bytes))) l.directory l.block l.rows l.size l.four-index

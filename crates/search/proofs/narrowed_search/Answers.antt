@@ -2,17 +2,14 @@
 use Prim.Native.Nat.{◌+◌}
 use native.Mathlib.Omega.{arith}
 use Rattle.search.specs.Search.{places_said}
-use Rattle.search.proofs.PlaceLaws.{length_places, length_cut}
+use Rattle.search.proofs.PlaceLaws.{length_places}
 use Rattle.search.proofs.SearchLaws.{near_gap, part_finds}
 use Rattle.search.proofs.narrowed_search.Goals as goal
-
-pub shift-requires : goal.shift-requires
-shift-requires c = omega (arith, length_cut c.args.part.now (c.args.cursor + 1) c.nearer-right.result (omega arith) (omega arith))
 
 pub returns : goal.returns
 returns c =
     let bs = c.args.part.now in
     let m = c.args.cursor in
-    part_finds bs c.args.target (m + 1) (m + 1 + c.args.gap) _ _ _ c.nearer-right.ensures (omega arith)
+    part_finds bs c.args.target (m + 1) (m + 1 + c.args.gap) _ _ _ c.min-right.ensures (omega arith)
     (λ rises. near_gap (places_said bs) rises m (omega (arith, length_places bs)) c.args.gap (omega arith) (omega arith)) c.exponential_search.ensures
     c.shift.ensures

@@ -1,10 +1,6 @@
 -- `sparse::content_ok` meets its contract. Assumes nothing.
-use Prim.Native.Nat.{◌-◌}
 use Rattle.sparse.proofs.ContentLaws.{Checking}
 use Rattle.sparse.proofs.content_ok.Given as goal
 
 abbrev pub invariant-loop-i : goal.invariant-loop-i
 invariant-loop-i l = Checking l.part l.end l.ok l.i
-
-abbrev pub decreases-loop-i : goal.decreases-loop-i
-decreases-loop-i l = l.last - l.i

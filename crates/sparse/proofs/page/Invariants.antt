@@ -1,11 +1,6 @@
 -- `sparse::page` meets its contract. Assumes nothing.
-use Prim.Native.Nat.{◌-◌}
-use lib.ListN.{length}
 use Rattle.sparse.proofs.PageLaws.{Listing}
 use Rattle.sparse.proofs.page.Given as goal
 
 abbrev pub invariant-loop-j : goal.invariant-loop-j
 invariant-loop-j l = Listing l.part l.base l.from l.initial.out l.out l.j
-
-abbrev pub decreases-loop-j : goal.decreases-loop-j
-decreases-loop-j l = length l.initial.out - l.j

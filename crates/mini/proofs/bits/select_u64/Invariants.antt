@@ -1,13 +1,9 @@
 -- `bits::select_u64` meets its contract. The loop's invariant: the places left are those of the word but for its lowest, one for each
 -- turn, so the first place left is the one wanted.
-use Prim.Native.Nat.{◌-◌, ◌≤◌}
 use mathlib.Core.Path.{◌≡◌}
 use lib.ListN.{drop}
 use Rattle.spec.specs.Reading.{bits}
 use Rattle.mini.proofs.bits.select_u64.Given as goal
 
 abbrev pub invariant-loop : goal.invariant-loop
-invariant-loop l = (l.counter ≤ l.k) × (bits 64 0 l.left ≡ drop l.counter (bits 64 0 l.bitvec))
-
-abbrev pub decreases-loop : goal.decreases-loop
-decreases-loop l = l.k - l.counter
+invariant-loop l = bits 64 0 l.left ≡ drop l.counter (bits 64 0 l.bitvec)

@@ -1,28 +1,24 @@
-use Prim.Native.Nat.{◌+◌, ◌-◌}
-use mathlib.Core.Path.{◌≡◌, refl}
-use native.Mathlib.Omega.{arith}
-use lib.ListN.{length-set}
+use Rattle.std.proofs.Common.{◌+◌, ◌-◌, ◌≡◌, ◌∙◌, length, arith}
 use Rattle.spec.specs.Layout.{bytes_of}
+use Rattle.spec.specs.Reading.{part}
+use Rattle.spec.proofs.Bytes.{length_bytes, length_part}
 use Rattle.words.proofs.LeLaws.{write_turn}
+use Rattle.words.proofs.StoreLaws.{part_back, sets_whole}
 use Rattle.words.proofs.le.write.Goals as goal
 
-pub loop-k-init : goal.loop-k-init
-loop-k-init c =
-    let here : c.args.i + 0 ≡ c.args.i = omega arith in
-    let all : c.args.w - 0 ≡ c.args.w = omega arith in
-    (omega arith, refl, rw (here, all))
-
-pub loop-k-preserved : goal.loop-k-preserved
-loop-k-preserved c =
-    let at = c.loop-k in
-    let a = c.args in
-    (omega arith, rw length-set at.invariant.1, write_turn at.d _ a.i a.w at.k at.rest (omega arith) at.invariant.2)
-
-pub shape_of-d : goal.shape_of-d
-shape_of-d c = c.loop-k.invariant.1
+pub loop-byte-preserved : goal.loop-byte-preserved
+loop-byte-preserved c =
+    let l = c.loop-byte in
+    write_turn l.byte-items _ c.args.w l.byte-index l.rest (omega arith) l.invariant
 
 pub returns : goal.returns
-unfolding bytes_of
+unfolding bytes_of part
 returns c =
-    let done : c.args.w - c.loop-k.k ≡ 0 = omega arith in
-    rw done at c.loop-k.invariant.2
+    let a = c.args in
+    let l = c.loop-byte in
+    let wide : a.i + a.w - a.i ≡ a.w = omega arith in
+    let long = length_part a.i (a.i + a.w) a.d.now (omega arith) c.requires ∙ wide in
+    let done : a.w - l.byte-index ≡ 0 = omega (arith, long) in
+    let filled = sets_whole (bytes_of a.w a.n) (part a.i (a.i + a.w) a.d.now) (length_bytes a.w a.n ∙ omega (arith, long)) in
+    let stored = part_back (bytes_of a.w a.n) a.d.now a.i a.w (length_bytes a.w a.n) c.requires in
+    rw (wide, rw done at l.invariant, filled) stored
