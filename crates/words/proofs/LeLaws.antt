@@ -1,4 +1,4 @@
--- The turns of the loops over bytes: one byte more is read, written or copied.
+-- Parts of bytes and the numbers in them, and the turn of the loop that writes a number.
 use Prim.Native.Nat.{ℕ, suc, ◌+◌, ◌-◌, ◌/◌, ◌%◌, ◌^◌, ◌≤◌, ◌<◌}
 use mathlib.Core.Path.{◌≡◌}
 use mathlib.Core.List.{List, ◌∷◌}
@@ -19,6 +19,10 @@ part_first a b s l h = let e : b - a ≡ suc (b - suc a) = omega arith in rw (e,
 -- w bytes hold a number below 256 ^ v, for any v from w on
 pub part_lt : (v w a b : ℕ) (s : List ℕ) → AreBytes s → a + w ≡ b → b ≤ length s → w ≤ v → number_in (part a b s) < 256 ^ v
 part_lt v w a b s y e h l = lt_of_lt_of_le (part_number_lt w a b s y e h) (pow-le-pow_right (omega arith) l)
+
+-- what is read before the lowest byte leaves room for it
+pub read_small : (s : List ℕ) (i w k n : ℕ) → AreBytes s → 0 < k → k ≤ w → w ≤ 8 → i + w ≤ length s → n ≡ number_in (part (i + k) (i + w) s) → n < 256 ^ 7
+read_small s i w k n y some h few l e = rw e (part_lt 7 (w - k) (i + k) (i + w) s y (omega arith) l (omega arith))
 
 -- of the writes that are left, which together make e, the first is made
 pub write_turn : (d e : List ℕ) (w k n : ℕ) → k < w → sets d k (bytes_of (w - k) n) ≡ e

@@ -9,7 +9,7 @@ use Rattle.std.proofs.lemmas.List.{get_or-reverse, length-reverse, length_push}
 use Rattle.std.proofs.lemmas.Grind.{get_or_default_zero}
 use Rattle.spec.specs.Reading.{AreBytes, number_in, part}
 use Rattle.spec.proofs.Bytes.{part_none, length_part, get_or_part}
-use Rattle.words.proofs.LeLaws.{part_first, part_lt}
+use Rattle.words.proofs.LeLaws.{part_first, read_small}
 use Rattle.words.proofs.le.read.Goals as goal
 
 abbrev Steps : Rev (Iter ℕ) → Option (Bor ℕ) → Rev (Iter ℕ) → Type 0
@@ -42,7 +42,9 @@ module _ (s : List ℕ) (i w n : ℕ) (h : (w ≤ 8) × (i + w ≤ length s)) (f
       rw (part_first (i + (w - (length xs + 1))) (i + w) s (omega (arith, more)) (omega (arith, more)), next, ← byte, read)
 
   fits : AreBytes s → p.now + 256 * n < 2 ^ 64
-  fits b = rw turn (part_lt 8 (length xs + 1) (i + (w - (length xs + 1))) (i + w) s b (omega (arith, more)) h.1 (omega (arith, more)))
+  fits b =
+      let low : p.now < 256 = rw byte (b (i + (w - (length xs + 1)))) in
+      omega (arith, low, read_small s i w (w - length xs) n b (omega (arith, more)) (omega arith) h.0 h.1 read)
 
 pub loop-byte-init : goal.loop-byte-init
 unfolding number_in
