@@ -1,5 +1,6 @@
 -- What each question of an index says: at or past the row count, and of a row below it, from what its block says.
-use Rattle.std.proofs.Common.{◌≡◌, ℕ, ◌+◌, ◌*◌, ◌/◌, ◌%◌, ◌^◌, ◌<◌, ◌≤◌, Bool, false, cond, ltb, List, length, get_or, sym, ap, ◌∙◌, arith, le-ltb, lt-ltb}
+use Rattle.std.proofs.Common.{◌≡◌, ℕ, ◌+◌, ◌*◌, ◌/◌, ◌%◌, ◌^◌, ◌<◌, ◌≤◌, Bool, false, cond, ltb}
+use Rattle.std.proofs.Common.{List, length, get_or, sym, ap, ◌∙◌, arith, le-ltb, lt-ltb}
 use Rattle.std.proofs.Common.{Option as Maybe, Some, None}
 use mathlib.Core.Option.{none, some}
 use Rattle.spec.specs.declared.Record.{Record}
@@ -104,11 +105,13 @@ module _ (file directory : List ℕ) (rec : Record) (y : AreBytes file) where
         pub next_at : (n : ℕ) → r ≡ Some n → Of file directory rec (λ xs. some (65536 * (d / size) + n) ≡ next d xs)
         next_at n q h gs g =
             let there : 65536 * (d / size) + n ≡ d / size * size + n = omega arith in
-            ap some there ∙ sym (nexts h gs g ∙ ap (λ x. or_else (moved (d / size * size) (placed x)) (next ((d / size + 1) * size) (rows_of gs))) q)
+            ap some there
+            ∙ sym (nexts h gs g ∙ ap (λ x. or_else (moved (d / size * size) (placed x)) (next ((d / size + 1) * size) (rows_of gs))) q)
 
         -- the first member of a later block has the rank of all rows up to this one's end
         later : r ≡ None → (h : Head) (gs : List Block) → Given file directory rec h gs
-            → next d (rows_of gs) ≡ cond (ltb (rows_before (d / size + 1) gs) (length (rows_of gs))) (some (select (rows_before (d / size + 1) gs) (rows_of gs))) none
+            → next d (rows_of gs)
+            ≡ cond (ltb (rows_before (d / size + 1) gs) (length (rows_of gs))) (some (select (rows_before (d / size + 1) gs) (rows_of gs))) none
         later q h gs g =
             nexts h gs g ∙ ap (λ x. or_else (moved (d / size * size) (placed x)) (next ((d / size + 1) * size) (rows_of gs))) q
             ∙ next_select 0 rec.row_count (rows_of gs) (given_rise file directory rec h gs y g) ((d / size + 1) * size)

@@ -1,5 +1,5 @@
-// What opening gave, where 10 does not refuse it. Of anything else it answers something safe, and of what opening gave together
-// exactly what the set says.
+// Bytes, directory and record, kept together once 10 has not refused them. Of any such three, questions answer something safe, and
+// of what opening gave together exactly what the set says.
 ghost use Rattle.std.specs.Prelude.{◌≡◌, ◌*◌, ◌<◌, ◌≤◌, false, true, get_or, IfOk, IfErr};
 ghost use Rattle.spec.specs.declared.Refusal.TheVariants.{Broken};
 ghost use Rattle.spec.specs.Set.{contains, rank, next};

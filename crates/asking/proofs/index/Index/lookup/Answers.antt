@@ -14,4 +14,5 @@ returns-in_err-below c =
 pub returns : goal.returns
 returns c =
     rw c.rows_before.ensures
-    (lookup_at _ _ _ c.args.self.bytes_fit _ c.if-self-row.false _ c.part.ensures _ (unbroken _ _ _ c.args.self.unbroken).count _ c.in_ok-below.was c.lookup.ensures)
+    (lookup_at _ _ _ c.args.self.bytes_fit _ c.if-self-row.false _ c.part.ensures _
+    (unbroken _ _ _ c.args.self.unbroken).count _ c.in_ok-below.was c.lookup.ensures)

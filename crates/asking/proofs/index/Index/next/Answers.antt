@@ -10,9 +10,11 @@ returns-in-Some c = next_at _ _ _ c.args.self.bytes_fit _ c.if-self-row.false _ 
 
 pub returns-then-self-end : goal.returns-then-self-end
 returns-then-self-end c =
-    next_none _ _ _ c.args.self.bytes_fit _ c.if-self-row.false _ c.part-part.ensures _ c.next.ensures.exact c.in_default.is (rw c.rows_before-end.ensures at c.if-self-end.true)
+    next_none _ _ _ c.args.self.bytes_fit _ c.if-self-row.false _ c.part-part.ensures _ c.next.ensures.exact
+    c.in_default.is (rw c.rows_before-end.ensures at c.if-self-end.true)
 
 pub returns : goal.returns
 returns c =
-    next_later _ _ _ c.args.self.bytes_fit _ c.if-self-row.false _ c.part-part.ensures _ c.next.ensures.exact c.in_default.is (rw c.rows_before-end.ensures at c.if-self-end.false) _
+    next_later _ _ _ c.args.self.bytes_fit _ c.if-self-row.false _ c.part-part.ensures _ c.next.ensures.exact
+    c.in_default.is (rw c.rows_before-end.ensures at c.if-self-end.false) _
     (rw c.rows_before-end.ensures at c.select.ensures)
