@@ -45,16 +45,8 @@ pub fn find_block(directory: &[u32], blocks: usize, k: u32) -> usize
     let mut left = blocks;
     while 1 < left {
         let half = left / 2;
-        base += half * not_above(directory[2 * (base + half)], k);
+        base += half * words::not_above(directory[2 * (base + half)], k);
         left -= half;
     }
     base
-}
-
-// 1 where a number of rows is not above k, and 0 where it is: by a difference, since LLVM makes a jump of usize::from(rows <= k), and
-// nothing foretells in a search which way it goes: about three times as slow.
-fn not_above(rows: u32, k: u32) -> usize
-    ensures { result ≡ bit (leb rows k) }
-{
-    ((k as u64 + 4294967296 - rows as u64) / 4294967296) as usize
 }

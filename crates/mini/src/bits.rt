@@ -2,7 +2,7 @@
 ghost use Rattle.std.specs.Prelude.{◌≡◌, cond, ℕ, ◌+◌, ◌^◌, ◌<◌, ◌≤◌, length, drop, IfSome};
 ghost use Rattle.spec.specs.Set.{contains, rank, select, next, below};
 ghost use Rattle.spec.specs.Reading.{bits};
-ghost use Rattle.mini.specs.Bits.{place_in};
+ghost use Rattle.words.specs.Part.{placed};
 
 // Whether place n is in the set.
 pub fn get_bit_at(input: u64, n: u16) -> bool
@@ -59,7 +59,7 @@ pub fn clear_lowest(bitvec: u64, n: u32) -> u64
 pub fn next_u64(bitvec: u64, from: u16) -> Option<u16>
     requires { from < 64 }
     ensures inside { IfSome result (λ p. p < 64) }
-    ensures first { place_in result ≡ next from (bits 64 0 bitvec) }
+    ensures first { placed result ≡ next from (bits 64 0 bitvec) }
 {
     let left = (bitvec >> from) << from;
     if left == 0 {

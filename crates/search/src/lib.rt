@@ -19,7 +19,7 @@ pub fn binary_search(part: &[u8], target: u16) -> Result<usize, usize>
     while 1 < size {
         let half = size / 2;
         let p = value_at_idx(part, base + half);
-        base += half * not_above(p, target);
+        base += half * words::not_above(p as u32, target as u32);
         size -= half;
     }
     let p = value_at_idx(part, base);
@@ -113,12 +113,4 @@ fn answer_at(i: usize, p: u16, target: u16) -> Result<usize, usize>
     ensures { result ≡ cond (eqb p target) (Ok i) (Err i) }
 {
     if p == target { Ok(i) } else { Err(i) }
-}
-
-// 1 where a place is not above the target, and 0 where it is: by a difference, since LLVM makes a jump of usize::from(p <= target), and
-// nothing foretells in a search which way it goes: more than twice as slow.
-fn not_above(p: u16, target: u16) -> usize
-    ensures { result ≡ bit (leb p target) }
-{
-    (target as usize + 65536 - p as usize) / 65536
 }
