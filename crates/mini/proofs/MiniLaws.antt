@@ -1,10 +1,10 @@
--- A mini-block and its ten bytes: each gives the other back. Ten bytes, copied, and as a part of a block.
+-- A mini-block and its ten bytes: each gives the other back. Ten bytes as a part of a block.
 use Prim.Native.Nat.{ℕ, zero, suc, ◌+◌, ◌-◌, ◌*◌, ◌/◌, ◌^◌, ◌≤◌, ◌<◌}
 use mathlib.Core.Path.{◌≡◌, refl, sym, ap, ap₂, ◌∙◌}
 use mathlib.Core.List.{List, [], ◌++◌, append-nil}
 use native.Mathlib.Nat.{mul-zero, mul-suc}
 use native.Mathlib.Omega.{arith}
-use lib.ListN.{length, get_or, take, drop, length-append}
+use lib.ListN.{length, get_or, take, drop}
 use lib.Seq.{drop-drop, take-take}
 use Rattle.std.proofs.lemmas.List.{drop-take}
 use Rattle.std.specs.Simd.{first_chunks}
@@ -34,14 +34,6 @@ pub bytes_mini : (bs : List ℕ) → AreBytes bs → length bs ≡ 10 → mini_b
 bytes_mini bs y n =
     ap₂ (λ a b. a ++ b) (part_number 8 0 8 bs y refl (omega arith)) (part_number 2 8 10 bs y refl (omega arith))
     ∙ part_join 0 8 10 bs (omega arith) (omega arith) ∙ ap (λ n. part 0 n bs) (sym n) ∙ part_all bs
-
--- ---- ten bytes, copied
-
--- the ten bytes of a mini-block, as the part that is copied
-pub part_mini : (x : DenseMiniBlock) (ten : List ℕ) → ten ≡ mini_bytes x → part 0 10 ten ≡ mini_bytes x
-part_mini x ten e =
-    let n : length (mini_bytes x) ≡ 10 = simp (length-append, length_bytes) in
-    ap (part 0 10) e ∙ ap (λ n. part 0 n (mini_bytes x)) (sym n) ∙ part_all (mini_bytes x)
 
 -- ---- a part of a part
 

@@ -52,12 +52,10 @@ pub fn put(out: &mut [u8], m: u16, before: u16, word: u64)
     requires { (length out.old ≡ 10240) × (m < 1024) }
     ensures { out.new ≡ sets out.old (10 * m) (mini_bytes (record { bitvec = word; rank = before })) }
 {
-    let mini = DenseMiniBlock {
-        bitvec: word,
-        rank: before,
-    };
-    // copy_from_slice takes 1.4 times as long here: it asks whether the two overlap.
-    words::copy(&mini.to_bytes(), 0, out, 10 * m as usize, 10);
+    // Not the ten bytes by copy_from_slice: that takes 1.4 times as long, since it asks whether the two overlap.
+    let start = 10 * m as usize;
+    words::le::write(out, start, 8, word);
+    words::le::put_u16(out, start + 8, before);
 }
 
 // A word made of rows, and the index of the first row past them.
