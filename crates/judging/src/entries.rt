@@ -62,7 +62,11 @@ fn entry_ok(x: Entry, low: u32, row_count: u32) -> bool
 pub(crate) fn rows_at(row_count: u32, number: u16) -> u32
     ensures { result ≡ rows_at row_count number }
 {
-    row_count.saturating_sub(number as u32 * 65536).min(65536)
+    let from = number as u32 * 65536;
+    if row_count <= from {
+        return 0;
+    }
+    (row_count - from).min(65536)
 }
 
 // The entry in the four bytes from an index on.
