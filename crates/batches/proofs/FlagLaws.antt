@@ -1,10 +1,13 @@
--- The two flags: questions that never fall, and ranks below n. What was seen so far, with what is left of the list, decides the whole.
+-- The two flags: questions that never fall, as their neighbours say, and ranks below n, where what was seen so far, with what is left
+-- of the list, decides the whole.
 use Rattle.std.proofs.Common.{◌≡◌, ℕ, ◌+◌, ◌<◌, ◌≤◌, Bool, true, false, ◌&&◌, List, length, get_or, sym, refl, ◌∙◌, arith, le-ltb, lt-ltb}
 use Rattle.spec.specs.Set.{below}
+use Rattle.spec.proofs.Tests.{by_test}
 use Rattle.spec.proofs.Steps.{Left, left_more, left_all}
 use Rattle.words.specs.Part.{NeverFalls}
 use Rattle.words.proofs.TestLaws.{and_no, and_yes}
 use Rattle.words.proofs.FlagLaws.{Climbing, climbs_apart}
+use Rattle.rows.proofs.NeighbourLaws.{climbs_all}
 use Rattle.batches.specs.Batches.{climbing}
 
 -- ---- questions that never fall
@@ -16,6 +19,13 @@ never_falling = record { none = λ low. refl; more = λ low x xs. refl }
 
 pub never_falls : (low : ℕ) (qs : List ℕ) → climbing low qs ≡ true → NeverFalls qs
 never_falls low qs e i j l h = climbs_apart never_falling (λ x. omega arith) low i j qs e l h
+
+-- as the neighbours say
+pub climb : (qs : List ℕ) → ((k : ℕ) → k + 1 < length qs → get_or qs k 0 ≤ get_or qs (k + 1) 0) → true ≡ climbing 0 qs
+climb qs h = sym (climbs_all never_falling qs h)
+
+pub fall : (qs : List ℕ) (k : ℕ) → k + 1 < length qs → get_or qs (k + 1) 0 < get_or qs k 0 → false ≡ climbing 0 qs
+fall qs k l h = sym (by_test (climbing 0 qs) (λ e. absurd (omega (arith, never_falls 0 qs e k (k + 1) (omega arith) l))) (λ e. e))
 
 -- ---- ranks below n
 

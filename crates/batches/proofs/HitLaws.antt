@@ -1,5 +1,6 @@
 -- The turns of a batch lookup: a question, or a run of questions of one block, at once.
 use Rattle.std.proofs.Common.{◌≡◌, ℕ, suc, ◌+◌, ◌-◌, ◌*◌, ◌/◌, ◌<◌, ◌≤◌, List, [], ◌++◌, map, length, get_or, take, drop, set, sym, refl, ap, ◌∙◌, append-nil, arith, length-append, length-drop, drop_of_length-le, length-take-le, take_all, drop-drop}
+use Rattle.std.proofs.Common.{Option as Maybe, Some, None}
 use native.Mathlib.Omega.{by_contra}
 use lib.ListN.{length-map}
 use lib.Seq.{drop-append-add, sets}
@@ -10,13 +11,12 @@ use Rattle.spec.specs.Reading.{AreBytes, part, Head, Given}
 use Rattle.spec.proofs.Bytes.{length_part, get_or_part}
 use Rattle.spec.proofs.Questions.{lookup_found, lookup_none, contains_past}
 use Rattle.spec.proofs.Directory.{given_rise}
-use Rattle.words.specs.declared.Place.{Place}
-use Rattle.words.specs.declared.Place.TheVariants.{At, Nothing}
 use Rattle.words.specs.Part.{placed, NeverFalls, InBlock}
 use Rattle.words.proofs.StoreLaws.{part_back}
 use Rattle.words.proofs.FillLaws.{Filling, filling_none, filling_hit, filling_miss, filling_run, filling_all}
 use Rattle.rows.specs.Runs.{Below}
-use Rattle.batches.specs.Batches.{Looked, Hits}
+use Rattle.asking.specs.Members.{Looked}
+use Rattle.batches.specs.Batches.{Hits}
 use Rattle.batches.proofs.LookupLaws.{hits_none}
 
 -- ---- a list lent from index n on
@@ -69,12 +69,12 @@ module _ {file directory : List ℕ} {rec : Record} {qs rows₀ ranks₀ rows ra
     (s : Seeking file directory rec qs rows₀ ranks₀ rows ranks' n i) where
   -- ---- one question
 
-  module _ (h : i < length qs) {r : Place} (says : Looked file directory rec (get_or qs i 0) r) where
-    pub seeking_hit : (x : ℕ) → r ≡ At x → Seeking file directory rec qs rows₀ ranks₀ (set rows n (get_or qs i 0)) (set ranks' n x) (n + 1) (i + 1)
+  module _ (h : i < length qs) {r : Maybe ℕ} (says : Looked file directory rec (get_or qs i 0) r) where
+    pub seeking_hit : (x : ℕ) → r ≡ Some x → Seeking file directory rec qs rows₀ ranks₀ (set rows n (get_or qs i 0)) (set ranks' n x) (n + 1) (i + 1)
     seeking_hit x e =
         seeking (λ hd gs. filling_hit (s.filled hd gs) x h (λ g. lookup_found (get_or qs i 0) x (rows_of gs) (sym (says hd gs g) ∙ ap placed e)))
 
-    pub seeking_miss : r ≡ Nothing → Seeking file directory rec qs rows₀ ranks₀ rows ranks' n (i + 1)
+    pub seeking_miss : r ≡ None → Seeking file directory rec qs rows₀ ranks₀ rows ranks' n (i + 1)
     seeking_miss e =
         seeking (λ hd gs. filling_miss (s.filled hd gs) h (λ g. lookup_none (get_or qs i 0) (rows_of gs) (sym (says hd gs g) ∙ ap placed e)))
 

@@ -3,4 +3,3 @@ pub mod PageLaws
 pub mod SelectLaws
 pub mod LookupLaws
 pub mod HitLaws
-pub mod OweLaws

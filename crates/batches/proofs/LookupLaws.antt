@@ -1,26 +1,22 @@
--- Batch lookup over an opened file: what a block says of a row, or of rows of its own, the set says.
+-- Batch lookup over an opened file: what a block says of rows of its own, the set says.
 use Rattle.std.proofs.Common.{◌≡◌, ℕ, suc, ◌+◌, ◌-◌, ◌*◌, ◌/◌, ◌%◌, ◌^◌, ◌<◌, ◌≤◌, false, List, [], ◌∷◌, ◌++◌, map, length, get_or, drop, sym, refl, ap, ◌∙◌, ap₂, arith}
-use mathlib.Core.Option.{some}
 use Rattle.spec.specs.declared.Record.{Record}
-use Rattle.spec.specs.Set.{keep, contains, rank, lookup, hits, ranks}
+use Rattle.spec.specs.Set.{keep, contains, rank, hits, ranks}
 use Rattle.spec.specs.Layout.{size, Block, rows_of}
 use Rattle.spec.specs.Reading.{count_of_blocks, AreBytes, Head, rows_before, Given}
 use Rattle.spec.specs.Answers.{broken}
 use Rattle.spec.proofs.Tests.{by_test}
 use Rattle.spec.proofs.Rising.{rising_length}
-use Rattle.spec.proofs.Questions.{rank_le, lookup_past, lookup_found}
+use Rattle.spec.proofs.Questions.{rank_le}
 use Rattle.spec.proofs.Asking.{unbroken}
 use Rattle.spec.proofs.Cut.{places_of}
-use Rattle.spec.proofs.Splits.{rank_split, contains_split, lookup_split, moved}
+use Rattle.spec.proofs.Splits.{rank_split, contains_split}
 use Rattle.spec.proofs.Directory.{given_well, given_rise, word_rows}
-use Rattle.words.specs.declared.Place.{Place}
-use Rattle.words.specs.declared.Place.TheVariants.{At, Nothing}
-use Rattle.words.specs.Part.{placed, InBlock, Batched}
-use Rattle.words.specs.Part as part
+use Rattle.words.specs.Part.{InBlock, Batched}
 use Rattle.words.proofs.RowLaws.{rows_from, row_contains, row_rank}
 use Rattle.directory.specs.Parts.{part_of}
 use Rattle.directory.proofs.PartLaws.{part_holds}
-use Rattle.batches.specs.Batches.{Looked, Hits}
+use Rattle.batches.specs.Batches.{Hits}
 
 -- ---- hits
 
@@ -54,29 +50,6 @@ module _ (file directory : List ℕ) (rec : Record) (y : AreBytes file) (ok : br
         rising_length 0 rec.row_count (rows_of gs) (given_rise file directory rec h gs y g),
         (unbroken file directory rec ok).count,
       )
-
-  -- ---- a row
-
-  pub look_past : (d : ℕ) → rec.row_count ≤ d → Looked file directory rec d Nothing
-  look_past d l h gs g = sym (lookup_past 0 rec.row_count (rows_of gs) (given_rise file directory rec h gs y g) d l)
-
-  module _ (d : ℕ) (l : d < rec.row_count) (p : List ℕ) (e : p ≡ part_of file directory rec.data_start (d / size)) (r : Place)
-      (o : part.Of p (λ ps. placed r ≡ lookup (d % size) ps)) where
-    looked : (h : Head) (gs : List Block) → Given file directory rec h gs → lookup d (rows_of gs) ≡ moved (rows_before (d / size) gs) (placed r)
-    looked h gs g =
-        lookup_split rec.row_count gs (given_well file directory rec h gs y g) d
-        ∙ ap (moved (rows_before (d / size) gs)) (sym (o (places_of (d / size) gs) (rw e (part_holds file directory rec y h gs g (d / size) (omega arith)))))
-
-    pub look_at : (n m : ℕ) → r ≡ At n → m ≡ (get_or directory (2 * (d / size)) 0 + n) % 2 ^ 32 → Looked file directory rec d (At m)
-    look_at n m q w h gs g =
-        let b = rows_before (d / size) gs in
-        let before = word_rows file directory rec h gs y g (d / size) (omega arith) in
-        let is : lookup d (rows_of gs) ≡ some (b + n) = looked h gs g ∙ ap (λ x. moved b (placed x)) q in
-        let m-is : m ≡ b + n = w ∙ ap (λ b. (b + n) % 2 ^ 32) before ∙ whole h gs g d (b + n) (lookup_found d (b + n) (rows_of gs) is).1 in
-        ap some m-is ∙ sym is
-
-    pub look_nothing : r ≡ Nothing → Looked file directory rec d Nothing
-    look_nothing q h gs g = sym (looked h gs g ∙ ap (λ x. moved (rows_before (d / size) gs) (placed x)) q)
 
   -- ---- rows of one block
 

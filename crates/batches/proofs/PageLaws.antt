@@ -1,5 +1,6 @@
 -- Members from a rank on: those of one block, and block after block.
 use Rattle.std.proofs.Common.{◌≡◌, ℕ, ◌+◌, ◌-◌, ◌*◌, ◌%◌, ◌^◌, ◌<◌, ◌≤◌, min, leb, List, ◌++◌, map, length, get_or, take, drop, sym, refl, ap, ◌∙◌, ap₂, add-zero, arith, length-drop, take-append-drop, length-take-le, take_all, drop-drop, leb-false, leb-true}
+use native.Mathlib.Omega.{by_contra}
 use Rattle.spec.specs.declared.Record.{Record}
 use Rattle.spec.specs.Set.{page}
 use Rattle.spec.specs.Layout.{size, Block, rows_of}
@@ -13,7 +14,8 @@ use Rattle.words.proofs.FrontLaws.{front_end, part_long, part_front}
 use Rattle.directory.specs.Parts.{part_of, Bracket}
 use Rattle.directory.proofs.PartLaws.{part_holds}
 use Rattle.directory.proofs.FindLaws.{climbs}
-use Rattle.batches.specs.Batches.{Of, Listed, ListedIn}
+use Rattle.asking.specs.Members.{Of}
+use Rattle.batches.specs.Batches.{Listed, ListedIn}
 
 -- `done` rows are filled, and block b has the next rank, or a later one has it
 pub record Paging (file directory : List ℕ) (rec : Record) (from : ℕ) (out₀ out : List ℕ) (b done : ℕ) : Type 0 where
@@ -72,13 +74,13 @@ module _ (file directory : List ℕ) (rec : Record) (y : AreBytes file) where
   module _ (from : ℕ) (out₀ out : List ℕ) (b done : ℕ) (inv : Paging file directory rec from out₀ out b done) where
     -- the rows up to index `to`, all that the list has room for or the block has
     pub paging_more : (to : ℕ) (new : List ℕ) → b < count_of_blocks rec.row_count → done < length out₀ → from + length out₀ ≤ rec.populated
-        → to ≡ done + min (length out - done) (get_or directory (2 * b + 2) 0 - (from + done))
+        → to ≡ done + min (length out - done) (get_or directory (2 * (b + 1)) 0 - (from + done))
         → ListedIn file directory rec b (from + done) (take (to - done) (drop done out)) new
         → Paging file directory rec from out₀ (take done out ++ (new ++ drop (to - done) (drop done out))) (b + 1) to
     paging_more to new l h room e listed =
         let n = to - done in
         let k = from + done in
-        let end = get_or directory (2 * b + 2) 0 in
+        let end = get_or directory (2 * (b + 1)) 0 in
         let long = inv.long in
         let back : done + n ≡ to = omega arith in
         let part : length (take n (drop done out)) ≡ n = length-take-le n (drop done out) (omega (arith, length-drop done out)) in
@@ -94,14 +96,14 @@ module _ (file directory : List ℕ) (rec : Record) (y : AreBytes file) where
               let x = inv.exact hd gs g in
               let new_is : new ≡ take n (drop k xs) =
               by_test (leb k end)
-              (λ q. listed.exact (x.0 h) (omega (arith, part, leb-true k end q)) hd gs g ∙ ap (λ n. page k n xs) part)
+              (λ q. listed.exact (x.0 h) (omega (arith, part, leb-true k end q, ap (λ j. get_or directory j 0) i)) hd gs g ∙ ap (λ n. page k n xs) part)
               (λ q.
               let none : n ≡ 0 = omega (arith, leb-false k end q) in
               sym (take_all 0 new (omega arith)) ∙ ap (λ n. take n (drop k xs)) (sym none)) in
               let after : k + n ≡ from + to = omega arith in
               let whole : new ++ drop (from + to) xs ≡ drop k xs =
               ap₂ (λ a r. a ++ r) new_is (ap (λ m. drop m xs) (sym after) ∙ sym (drop-drop n k xs)) ∙ take-append-drop n (drop k xs) in (
-                λ m. omega (arith, ap (λ j. get_or directory j 0) i),
+                λ m. omega arith,
                 ap (λ t. take t (take done out ++ (new ++ drop n (drop done out))) ++ drop (from + to) xs) (sym back)
                     ∙ part_front out new done n new-long fits (drop from xs) (drop (from + to) xs) (ap (λ r. take done out ++ r) whole ∙ x.1),
               );
@@ -116,16 +118,14 @@ module _ (file directory : List ℕ) (rec : Record) (y : AreBytes file) where
               ∙ ap (λ n. page from n (rows_of gs)) inv.long;
         }
 
-    -- the last block has the last rank
-    pub paging_short : b ≡ count_of_blocks rec.row_count → done < length out₀ → from + length out₀ ≤ rec.populated → Listed file directory rec from out₀ out
-    paging_short e h room =
+    -- no block is left: the last one has the last rank
+    pub paging_past : b ≡ count_of_blocks rec.row_count → from + length out₀ ≤ rec.populated → Listed file directory rec from out₀ out
+    paging_past e room =
         record {
           long = inv.long;
           exact = λ hd gs g.
-              absurd (omega (
-                arith,
-                (inv.exact hd gs g).0 h,
-                ap (λ b. get_or directory (2 * b) 0) e,
-                closing_rows file directory rec hd gs y g,
-              ));
+              let closing = closing_rows file directory rec hd gs y g in
+              let all : length out₀ ≤ done =
+              by_contra (length out₀) done (λ l. omega (arith, (inv.exact hd gs g).0 l, ap (λ b. get_or directory (2 * b) 0) e, closing)) in
+              (paging_end all).exact hd gs g;
         }

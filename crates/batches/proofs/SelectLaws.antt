@@ -11,7 +11,8 @@ use Rattle.spec.proofs.Directory.{given_populated, first_word, closing_rows}
 use Rattle.words.proofs.FrontLaws.{front_end, part_long, part_front, part_rest}
 use Rattle.directory.specs.Parts.{Bracket}
 use Rattle.directory.proofs.FindLaws.{climbs}
-use Rattle.batches.specs.Batches.{Of, ListedIn, Selected, Run}
+use Rattle.asking.specs.Members.{Of}
+use Rattle.batches.specs.Batches.{ListedIn, Selected, Run}
 
 -- ---- a run
 
@@ -24,16 +25,13 @@ run_one ks i end h =
       below = λ l. omega arith;
     }
 
-pub run_more : (ks : List ℕ) (i end e : ℕ) → Run ks i end e → e < i + min (length ks - i) (end - get_or ks i 0) → get_or ks e 0 ≡ get_or ks i 0 + (e - i)
-    → Run ks i end (e + 1)
-run_more ks i end e r l q =
-    let s = r.some in
-    let at : i + (e - i) ≡ e = omega arith in
-    let last : get_or ks (i + (e - i)) 0 ≡ get_or ks i 0 + (e - i) = ap (λ e. get_or ks e 0) at ∙ q in
+pub run_more : (ks : List ℕ) (i end n : ℕ) → Run ks i end (i + n) → n < min (length ks - i) (end - get_or ks i 0) → get_or ks (i + n) 0 ≡ get_or ks i 0 + n
+    → Run ks i end (i + (n + 1))
+run_more ks i end n r l q =
     record {
       some = omega arith;
       within = omega arith;
-      next = λ j m. below_more (λ j. get_or ks (i + j) 0 ≡ get_or ks i 0 + j) (e - i) r.next last j (omega arith);
+      next = λ j m. below_more (λ j. get_or ks (i + j) 0 ≡ get_or ks i 0 + j) n (λ j k. r.next j (omega arith)) q j (omega arith);
       below = λ m. omega arith;
     }
 
@@ -73,7 +71,7 @@ module _ (file directory : List ℕ) (rec : Record) (y : AreBytes file) where
         omega (arith, ap (λ i. get_or out i 0) z, ap (λ i. get_or ks i 0) z, rank_left 0, below_all rec.populated ks all i h)
 
     pub replacing_more : (b' e : ℕ) (new : List ℕ) → below rec.populated ks ≡ true → i < length ks
-        → Bracket directory (count_of_blocks rec.row_count) (get_or out i 0) b' → Run out i (get_or directory (2 * b' + 2) 0) e
+        → Bracket directory (count_of_blocks rec.row_count) (get_or out i 0) b' → Run out i (get_or directory (2 * (b' + 1)) 0) e
         → ListedIn file directory rec b' (get_or out i 0) (take (e - i) (drop i out)) new
         → Replacing file directory rec ks (take i out ++ (new ++ drop (e - i) (drop i out))) b' e
     replacing_more b' e new all h found run listed =
@@ -101,7 +99,7 @@ module _ (file directory : List ℕ) (rec : Record) (y : AreBytes file) where
               let here =
               found.has up (omega (arith, first_word file directory rec hd gs y g))
               (omega (arith, closing_rows file directory rec hd gs y g, rank_below all h)) in
-              let upto : k + n ≤ get_or directory (2 * b' + 2) 0 = run.below (omega (arith, here.1)) in
+              let upto : k + n ≤ get_or directory (2 * b' + 2) 0 = omega (arith, run.below here.1) in
               let many : k + n ≤ length xs =
               omega (arith, up (b' + 1) B (omega (arith, found.one)) (omega arith), closing_rows file directory rec hd gs y g, given_populated file directory rec hd gs y g) in
               let new_is : new ≡ page k n xs =

@@ -2,15 +2,8 @@
 -- opening gave together what the set says.
 use Rattle.std.specs.Prelude.{◌≡◌, ℕ, ◌+◌, ◌-◌, ◌*◌, ◌<◌, ◌≤◌, Bool, true, ◌&&◌, List, [], ◌∷◌, ◌++◌, length, drop, nat_le, slice_index, slice_index_or}
 use Rattle.spec.specs.declared.Record.{Record}
-use Rattle.spec.specs.Set.{lookup, hits, ranks, selects, page}
-use Rattle.spec.specs.Layout.{Block, rows_of}
-use Rattle.spec.specs.Reading.{Head, Given}
-use Rattle.words.specs.declared.Place.{Place}
-use Rattle.words.specs.Part.{placed}
-
--- what is said of the rows of the set, where opening gave all three together
-abbrev pub Of : List ℕ → List ℕ → Record → (List ℕ → Type 0) → Type 0
-Of file directory rec exact = (h : Head) (gs : List Block) → Given file directory rec h gs → exact (rows_of gs)
+use Rattle.spec.specs.Set.{hits, ranks, selects, page}
+use Rattle.asking.specs.Members.{Of}
 
 -- ---- batch lookup
 
@@ -18,10 +11,6 @@ Of file directory rec exact = (h : Head) (gs : List Block) → Given file direct
 unfoldable pub climbing : ℕ → List ℕ → Bool
 climbing low [] = true
 climbing low (x ∷ xs) = nat_le low x && climbing x xs
-
--- the rank of a member
-abbrev pub Looked : List ℕ → List ℕ → Record → ℕ → Place → Type 0
-Looked file directory rec d r = Of file directory rec (λ xs. placed r ≡ lookup d xs)
 
 -- n hits: no more than questions, and places past them stay; all hits of the set, in question order
 pub record Hits (file directory : List ℕ) (rec : Record) (qs rows₀ ranks₀ rows ranks' : List ℕ) (n : ℕ) : Type 0 where

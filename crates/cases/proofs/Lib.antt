@@ -1,1 +1,2 @@
 pub mod BatchLaws
+pub mod SetLaws

@@ -1,174 +1,123 @@
 // The worked cases' files, written: the answer, and the whole output afterwards, which had 07 everywhere before.
-use codes::NONE;
-use spec::{Count, Number};
-use std::io;
+use lines::{Answer, Bytes, line};
+use spec::{Count, Refusal};
+use std::{array, io};
 
 // Files that are short enough to print. The rest of the output stays.
 pub fn short(rt: &impl Print) -> io::Result<()> {
     wrote(
         rt,
-        b"P1 no rows of 300",
+        "P1 no rows of 300",
         300,
         &[],
-        4,
-        &[0x2C, 0x82, 0, 0, 7, 7, 7, 7, 7, 7, 7],
+        Ok(4),
+        [0x2C, 0x82, 0, 0, 7, 7, 7, 7, 7, 7, 7],
     )?;
     wrote(
         rt,
-        b"P2 rows 1 5 of 10",
+        "P2 rows 1 5 of 10",
         10,
         &[1, 5],
-        11,
-        &[0x8A, 1, 0, 5, 0, 0, 0, 1, 0, 1, 0],
+        Ok(11),
+        [0x8A, 1, 0, 5, 0, 0, 0, 1, 0, 1, 0],
     )?;
     wrote(
         rt,
-        b"P3 row 65536 of 65537",
+        "P3 row 65536 of 65537",
         65537,
         &[65536],
-        11,
-        &[1, 0, 0x84, 0, 0, 1, 0, 0, 0, 1, 0],
+        Ok(11),
+        [1, 0, 0x84, 0, 0, 1, 0, 0, 0, 1, 0],
     )?;
     wrote(
         rt,
-        b"no rows of 0",
+        "no rows of 0",
         0,
         &[],
-        3,
-        &[0x80, 0, 0, 7, 7, 7, 7, 7, 7, 7, 7],
+        Ok(3),
+        [0x80, 0, 0, 7, 7, 7, 7, 7, 7, 7, 7],
     )?;
-    let mut out = [7u8; 13];
-    into(
+    wrote(
         rt,
-        b"the last row of the largest row count",
+        "the last row of the largest row count",
         4294901760,
         &[4294901759],
-        &mut out,
-        13,
-        &[0, 0, 0x7C, 0x7F, 0x8F, 0xFF, 0xFF, 0xFE, 0xFF, 0, 0, 1, 0],
+        Ok(13),
+        [0, 0, 0x7C, 0x7F, 0x8F, 0xFF, 0xFF, 0xFE, 0xFF, 0, 0, 1, 0],
     )
 }
 
 // What is refused leaves the output as it was.
 pub fn refused(rt: &impl Print) -> io::Result<()> {
-    let same = [7u8; 11];
+    let same = [7; 11];
     wrote(
         rt,
-        b"row count 4294901761",
+        "row count 4294901761",
         4294901761,
         &[],
-        NONE + 1,
-        &same,
+        Err(Refusal::Rows),
+        same,
     )?;
-    wrote(rt, b"P11 rows 4 4 of 10", 10, &[4, 4], NONE + 2, &same)?;
-    wrote(rt, b"P12 row 10 of 10", 10, &[10], NONE + 3, &same)?;
-    wrote(rt, b"row 0 of 0", 0, &[0], NONE + 3, &same)?;
-    let mut ten = [7u8; 10];
-    into(
+    wrote(
         rt,
-        b"P2 into ten bytes",
+        "P11 rows 4 4 of 10",
+        10,
+        &[4, 4],
+        Err(Refusal::Order),
+        same,
+    )?;
+    wrote(rt, "P12 row 10 of 10", 10, &[10], Err(Refusal::Range), same)?;
+    wrote(rt, "row 0 of 0", 0, &[0], Err(Refusal::Range), same)?;
+    wrote(
+        rt,
+        "P2 into ten bytes",
         10,
         &[1, 5],
-        &mut ten,
-        NONE + 4,
-        &[7u8; 10],
+        Err(Refusal::Room),
+        [7; 10],
     )
 }
 
-// Into eleven bytes.
-fn wrote(
+// Writes into as many bytes as are due.
+fn wrote<const N: usize>(
     rt: &impl Print,
-    name: &[u8],
+    name: &str,
     row_count: u32,
     rows: &[u32],
-    due: u64,
-    after: &[u8],
+    due: Count,
+    after: [u8; N],
 ) -> io::Result<()> {
-    let mut out = [7u8; 11];
-    into(rt, name, row_count, rows, &mut out, due, after)
+    let mut out = [7; N];
+    let came = writing::write(row_count, rows, &mut out);
+    line(rt, name, Answer(came), Answer(due))?;
+    line(rt, "  the output", Bytes(&out), Bytes(&after))
 }
 
-fn into(
-    rt: &impl Print,
-    name: &[u8],
-    row_count: u32,
-    rows: &[u32],
-    out: &mut [u8],
-    due: u64,
-    after: &[u8],
-) -> io::Result<()> {
-    lines::answer(rt, name, length(row_count, rows, out), due)?;
-    lines::bytes(rt, b"  the output", out, after)
-}
-
-// The C number of writing's answer.
-fn length(row_count: u32, rows: &[u32], out: &mut [u8]) -> u64 {
-    match writing::write(row_count, rows, out) {
-        Count::Is(n) => n as u64,
-        Count::Refused(e) => codes::of_number(Number::Refused(e)),
-    }
-}
-
-// All rows of a sparse, of a dense and of a full block.
+// All rows of a sparse, of a dense and of a full block. The full block's count is stored as FF FF, and its last running count is C0 FF.
 pub fn full(rt: &impl Print) -> io::Result<()> {
-    let mut rows = [0u32; 65536];
-    let mut out = [0u8; 10249];
-    count_up(&mut rows);
-    all(rt, &rows, &mut out)
-}
-
-fn count_up(rows: &mut [u32]) {
-    let mut i = 0;
-    while i < rows.len() {
-        rows[i] = (i % 65536) as u32;
-        i += 1;
-    }
-}
-
-// The full block's count is stored as FF FF, and its last running count is C0 FF.
-fn all(rt: &impl Print, rows: &[u32], out: &mut [u8]) -> io::Result<()> {
-    first(rt, b"all 5119 rows of 5119", 5119, rows, out, 10246)?;
-    first(rt, b"all 5120 rows of 5120", 5120, rows, out, 10248)?;
-    first(rt, b"all 65536 rows of 65536", 65536, rows, out, 10249)?;
-    part(
+    let rows: [u32; 65536] = array::from_fn(|i| i as u32);
+    let mut out = [0; 10249];
+    let came = writing::write(5119, &rows[..5119], &mut out);
+    line(rt, "all 5119 rows of 5119", Answer(came), Answer(Ok(10246)))?;
+    let came = writing::write(5120, &rows[..5120], &mut out);
+    line(rt, "all 5120 rows of 5120", Answer(came), Answer(Ok(10248)))?;
+    let came = writing::write(65536, &rows, &mut out);
+    line(
         rt,
-        b"  its last running count",
-        out,
-        10241,
-        10243,
-        &[0xC0, 0xFF],
+        "all 65536 rows of 65536",
+        Answer(came),
+        Answer(Ok(10249)),
     )?;
-    part(rt, b"  its entry", out, 10243, 10247, &[0, 0, 0xFF, 0xFF])
-}
-
-fn first(
-    rt: &impl Print,
-    name: &[u8],
-    row_count: u32,
-    rows: &[u32],
-    out: &mut [u8],
-    due: u64,
-) -> io::Result<()> {
-    let n = row_count as usize;
-    if n <= rows.len() {
-        let front = &rows[0..n];
-        lines::answer(rt, name, length(row_count, front, out), due)?;
-    }
-    Ok(())
-}
-
-fn part(
-    rt: &impl Print,
-    name: &[u8],
-    s: &[u8],
-    from: usize,
-    to: usize,
-    due: &[u8],
-) -> io::Result<()> {
-    if from <= to {
-        if to <= s.len() {
-            lines::bytes(rt, name, &s[from..to], due)?;
-        }
-    }
-    Ok(())
+    line(
+        rt,
+        "  its last running count",
+        Bytes(&out[10241..10243]),
+        Bytes(&[0xC0, 0xFF]),
+    )?;
+    line(
+        rt,
+        "  its entry",
+        Bytes(&out[10243..10247]),
+        Bytes(&[0, 0, 0xFF, 0xFF]),
+    )
 }

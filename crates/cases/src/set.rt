@@ -4,20 +4,13 @@ ghost use Rattle.std.specs.Prelude.{◌≡◌, ◌^◌, ◌<◌, ◌≤◌, leng
 ghost use Rattle.spec.specs.Set.{contains, rank};
 ghost use Rattle.spec.specs.Answers.{value, numbered, found, say_select, say_lookup, say_next, all_hits};
 
-use spec::{Found, Number, Refusal};
+use spec::{Number, Refusal};
 
 // Whether d is in the set.
 pub fn contains(rows: &[u32], d: u32) -> bool
     ensures { result ≡ contains d rows.now }
 {
-    let mut i = 0;
-    while i < rows.len() {
-        if rows[i] == d {
-            return true;
-        }
-        i += 1;
-    }
-    false
+    rows.contains(&d)
 }
 
 // The number of rows below d. A set of rows has few enough that it fits.
@@ -25,53 +18,33 @@ pub fn rank(rows: &[u32], d: u32) -> u32
     requires { length rows.now < 2 ^ 32 }
     ensures { result ≡ rank d rows.now }
 {
-    let mut n = 0;
-    let mut i = 0;
-    while i < rows.len() {
-        let row = rows[i];
-        i += 1;
-        if row < d {
-            n += 1;
-        }
-    }
-    n
+    rows.iter().filter(|r| **r < d).count() as u32
 }
 
 // The rank of d, if d is in the set.
-pub fn lookup(rows: &[u32], d: u32) -> Found
+pub fn lookup(rows: &[u32], d: u32) -> Option<u32>
     requires { length rows.now < 2 ^ 32 }
-    ensures { found result ≡ say_lookup d rows.now }
+    ensures { found (Ok result) ≡ say_lookup d rows.now }
 {
     if contains(rows, d) {
-        return Found::At(rank(rows, d));
+        Some(rank(rows, d))
+    } else {
+        None
     }
-    Found::Nothing
 }
 
 // The row with k rows below it.
 pub fn select(rows: &[u32], k: u32) -> Number
     ensures { numbered result ≡ say_select k rows.now }
 {
-    let at = k as usize;
-    if at < rows.len() {
-        return Number::Is(rows[at]);
-    }
-    Number::Refused(Refusal::Rank)
+    rows.get(k as usize).copied().ok_or(Refusal::Rank)
 }
 
 // The smallest row at or after t.
-pub fn next(rows: &[u32], t: u32) -> Found
-    ensures { found result ≡ say_next t rows.now }
+pub fn next(rows: &[u32], t: u32) -> Option<u32>
+    ensures { found (Ok result) ≡ say_next t rows.now }
 {
-    let mut i = 0;
-    while i < rows.len() {
-        let row = rows[i];
-        if t <= row {
-            return Found::At(row);
-        }
-        i += 1;
-    }
-    Found::Nothing
+    rows.iter().copied().find(|r| t <= *r)
 }
 
 // The questions that are in the set go to the front of hits, and their ranks to that of ranks; returns how many.
@@ -82,13 +55,10 @@ pub fn lookup_batch(rows: &[u32], questions: &[u32], hits: &mut [u32], ranks: &m
         ≡ all_hits questions.now hits.old ranks.old rows.now }
 {
     let mut n = 0;
-    let mut i = 0;
-    while i < questions.len() {
-        let q = questions[i];
-        i += 1;
-        if contains(rows, q) {
-            hits[n] = q;
-            ranks[n] = rank(rows, q);
+    for q in questions {
+        if contains(rows, *q) {
+            hits[n] = *q;
+            ranks[n] = rank(rows, *q);
             n += 1;
         }
     }

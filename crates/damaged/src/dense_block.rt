@@ -1,60 +1,45 @@
 // Damage to a dense block: the file of all 5,120 rows of 5,120, whose data begin at byte 2. Mini-block 79 has the last rows.
-use codes::NONE;
-use spec::Count;
-use std::io;
+use lines::{Answer, line};
+use spec::{Number, Refusal};
+use std::{array, io};
+
+// Where mini-block 79 begins in the file.
+const MINI_79: usize = 792;
+
+// Where mini-block 80 begins.
+const MINI_80: usize = 802;
 
 pub fn all(rt: &impl Print) -> io::Result<()> {
-    let mut rows = [0u32; 5120];
-    let mut bytes = [0u8; 10248];
-    count_up(&mut rows);
-    damage(rt, &rows, &mut bytes)
+    let rows: [u32; 5120] = array::from_fn(|i| i as u32);
+    let mut bytes = [0; 10248];
+    let _ = writing::write(5120, &rows, &mut bytes);
+    opened(rt, "all 5120 rows of 5120", &bytes, Ok(5120))?;
+    bytes[MINI_79 + 7] = 0x7F;
+    opened(
+        rt,
+        "a row less than the entry says",
+        &bytes,
+        Err(Refusal::Content),
+    )?;
+    // Row 5,119 taken away and row 5,120 put in its place: first the running count behind them is wrong, then the row alone.
+    bytes[MINI_80] = 1;
+    opened(
+        rt,
+        "a running count that is wrong",
+        &bytes,
+        Err(Refusal::Content),
+    )?;
+    bytes[MINI_80 + 8] = 0xFF;
+    bytes[MINI_80 + 9] = 0x13;
+    opened(rt, "row 5120 of 5120", &bytes, Err(Refusal::Content))
 }
 
-fn count_up(rows: &mut [u32]) {
-    let mut i = 0;
-    while i < rows.len() {
-        rows[i] = (i % 65536) as u32;
-        i += 1;
-    }
-}
-
-fn damage(rt: &impl Print, rows: &[u32], bytes: &mut [u8]) -> io::Result<()> {
-    write(rows, bytes);
-    answer(rt, b"all 5120 rows of 5120", bytes, 5120)?;
-    fewer(rt, bytes)?;
-    moved(rt, bytes)
-}
-
-fn fewer(rt: &impl Print, bytes: &mut [u8]) -> io::Result<()> {
-    set(bytes, 790, 9, 0x7F);
-    answer(rt, b"a row less than the entry says", bytes, NONE + 8)
-}
-
-// Row 5,119 taken away and row 5,120 put in its place: first the running count behind them is wrong, then the row alone.
-fn moved(rt: &impl Print, bytes: &mut [u8]) -> io::Result<()> {
-    set(bytes, 800, 2, 1);
-    answer(rt, b"a running count that is wrong", bytes, NONE + 8)?;
-    set(bytes, 800, 10, 0xFF);
-    set(bytes, 800, 11, 0x13);
-    answer(rt, b"row 5120 of 5120", bytes, NONE + 8)
-}
-
-fn write(rows: &[u32], bytes: &mut [u8]) {
-    match writing::write(5120, rows, bytes) {
-        Count::Is(_) => {}
-        Count::Refused(_) => {}
-    }
-}
-
-fn answer(rt: &impl Print, name: &[u8], bytes: &[u8], due: u64) -> io::Result<()> {
-    let mut words = [0u32; 4];
-    lines::answer(rt, name, crate::open(bytes, &mut words), due)
-}
-
-// Stores a byte of a mini-block, which begins at byte mini behind the row count.
-fn set(bytes: &mut [u8], mini: usize, at: usize, byte: u8) {
-    let i = mini % 65536 + at % 65536;
-    if i < bytes.len() {
-        bytes[i] = byte;
-    }
+fn opened(rt: &impl Print, name: &str, bytes: &[u8], due: Number) -> io::Result<()> {
+    let mut words = [0; 4];
+    line(
+        rt,
+        name,
+        Answer(crate::open(bytes, &mut words)),
+        Answer(due),
+    )
 }

@@ -3,8 +3,8 @@
 
 mod dense_block;
 
-use codes::NONE;
-use spec::{Number, Opened};
+use lines::{Answer, List, line};
+use spec::{Number, Refusal};
 use std::io;
 
 fn main(rt: HostRuntime) -> io::Result<()> {
@@ -20,103 +20,113 @@ fn main(rt: HostRuntime) -> io::Result<()> {
 
 // The directory lies at the front, and further words stay.
 fn good(rt: &impl Print) -> io::Result<()> {
-    opened(rt, b"P1", &[0x2C, 0x82, 0, 0], 300, &[0, 0, 0, 0, 7, 7])?;
+    opened(rt, "P1", &[0x2C, 0x82, 0, 0], Ok(300), [0, 0, 0, 0, 7, 7])?;
     opened(
         rt,
-        b"P2",
+        "P2",
         &[0x8A, 1, 0, 5, 0, 0, 0, 1, 0, 1, 0],
-        10,
-        &[0, 0, 2, 4, 7, 7],
+        Ok(10),
+        [0, 0, 2, 4, 7, 7],
     )?;
     opened(
         rt,
-        b"P3",
+        "P3",
         &[1, 0, 0x84, 0, 0, 1, 0, 0, 0, 1, 0],
-        65537,
-        &[0, 0, 0, 0, 1, 2],
+        Ok(65537),
+        [0, 0, 0, 0, 1, 2],
     )?;
-    opened(rt, b"no rows of 0", &[0x80, 0, 0], 0, &[0, 0, 7, 7, 7, 7])
+    opened(rt, "no rows of 0", &[0x80, 0, 0], Ok(0), [0, 0, 7, 7, 7, 7])
 }
 
 // 5: too short; not ended before the last two bytes, or within five; padded.
 fn header(rt: &impl Print) -> io::Result<()> {
-    refused(rt, b"no bytes", &[], 5)?;
-    refused(rt, b"two bytes", &[0x80, 0], 5)?;
+    refused(rt, "no bytes", &[], Refusal::Header)?;
+    refused(rt, "two bytes", &[0x80, 0], Refusal::Header)?;
     refused(
         rt,
-        b"a row count into the last two bytes",
+        "a row count into the last two bytes",
         &[0x0A, 0x80, 0x80],
-        5,
+        Refusal::Header,
     )?;
     refused(
         rt,
-        b"a row count of six bytes",
+        "a row count of six bytes",
         &[0, 0, 0, 0, 0, 0x81, 0, 0],
-        5,
+        Refusal::Header,
     )?;
-    refused(rt, b"P10, a padded row count", &[0x2C, 0x02, 0x80, 0, 0], 5)
+    refused(
+        rt,
+        "P10, a padded row count",
+        &[0x2C, 0x02, 0x80, 0, 0],
+        Refusal::Header,
+    )
 }
 
 // 1, also where the row count is past 32 bits, and before any fault of the entries.
 fn rows(rt: &impl Print) -> io::Result<()> {
     refused(
         rt,
-        b"row count 4294901761",
+        "row count 4294901761",
         &[0x01, 0, 0x7C, 0x7F, 0x8F, 0, 0],
-        1,
+        Refusal::Rows,
     )?;
     refused(
         rt,
-        b"a row count past 32 bits",
+        "a row count past 32 bits",
         &[0, 0, 0, 0, 0xFF, 0, 0],
-        1,
+        Refusal::Rows,
     )?;
     refused(
         rt,
-        b"above the limit, and an entry without room",
+        "above the limit, and an entry without room",
         &[0x01, 0, 0x7C, 0x7F, 0x8F, 1, 0],
-        1,
+        Refusal::Rows,
     )
 }
 
 // 6: entries overlap the row count; a number at B, or not increasing; more rows than the block has.
 fn entries(rt: &impl Print) -> io::Result<()> {
-    refused(rt, b"an entry without room", &[0x8A, 1, 0], 6)?;
+    refused(rt, "an entry without room", &[0x8A, 1, 0], Refusal::Entries)?;
     refused(
         rt,
-        b"an entry that overlaps the row count",
+        "an entry that overlaps the row count",
         &[0, 0, 0x7C, 0x7F, 0x8F, 0, 0, 0, 1, 0],
-        6,
+        Refusal::Entries,
     )?;
-    refused(rt, b"block 1 of one block", &[0x8A, 1, 0, 0, 0, 1, 0], 6)?;
     refused(
         rt,
-        b"block 0 twice",
+        "block 1 of one block",
+        &[0x8A, 1, 0, 0, 0, 1, 0],
+        Refusal::Entries,
+    )?;
+    refused(
+        rt,
+        "block 0 twice",
         &[0x8A, 1, 0, 2, 0, 0, 0, 0, 0, 0, 0, 0, 0, 2, 0],
-        6,
+        Refusal::Entries,
     )?;
     refused(
         rt,
-        b"two rows of one",
+        "two rows of one",
         &[0x81, 0, 0, 1, 0, 0, 0, 1, 0, 1, 0],
-        6,
+        Refusal::Entries,
     )?;
     refused(
         rt,
-        b"a late entry at fault behind bad places",
+        "a late entry at fault behind bad places",
         &[0x8A, 10, 0, 0, 0, 0, 0, 0, 0, 1, 0, 0, 0, 2, 0],
-        6,
+        Refusal::Entries,
     )
 }
 
 // 7: a byte too many, or too few.
 fn length(rt: &impl Print) -> io::Result<()> {
-    refused(rt, b"a byte and no entry", &[0x8A, 7, 0, 0], 7)?;
+    refused(rt, "a byte and no entry", &[0x8A, 7, 0, 0], Refusal::Length)?;
     refused(
         rt,
-        b"three bytes for two places",
+        "three bytes for two places",
         &[0x8A, 5, 0, 5, 0, 0, 1, 0, 1, 0],
-        7,
+        Refusal::Length,
     )
 }
 
@@ -124,53 +134,48 @@ fn length(rt: &impl Print) -> io::Result<()> {
 fn content(rt: &impl Print) -> io::Result<()> {
     refused(
         rt,
-        b"place 5 twice",
+        "place 5 twice",
         &[0x8A, 5, 0, 5, 0, 0, 0, 1, 0, 1, 0],
-        8,
+        Refusal::Content,
     )?;
-    refused(rt, b"row 10 of 10", &[0x8A, 10, 0, 0, 0, 0, 0, 1, 0], 8)
+    refused(
+        rt,
+        "row 10 of 10",
+        &[0x8A, 10, 0, 0, 0, 0, 0, 1, 0],
+        Refusal::Content,
+    )
 }
 
 // 4: a directory of three words, where four are due.
 fn room(rt: &impl Print) -> io::Result<()> {
-    let mut words = [7u32; 3];
-    into(
+    opened(
         rt,
-        b"P2 into three words",
+        "P2 into three words",
         &[0x8A, 1, 0, 5, 0, 0, 0, 1, 0, 1, 0],
-        &mut words,
-        NONE + 4,
-        &[7, 7, 7],
+        Err(Refusal::Room),
+        [7; 3],
     )
 }
 
 // A refusal leaves the directory as it was.
-fn refused(rt: &impl Print, name: &[u8], bytes: &[u8], due: u64) -> io::Result<()> {
-    opened(rt, name, bytes, NONE + due % 16, &[7, 7, 7, 7, 7, 7])
+fn refused(rt: &impl Print, name: &str, bytes: &[u8], due: Refusal) -> io::Result<()> {
+    opened(rt, name, bytes, Err(due), [7; 6])
 }
 
-// Into six words.
-fn opened(rt: &impl Print, name: &[u8], bytes: &[u8], due: u64, after: &[u32]) -> io::Result<()> {
-    let mut words = [7u32; 6];
-    into(rt, name, bytes, &mut words, due, after)
-}
-
-fn into(
+// Opens with a directory of as many words as are due, each 7 before.
+fn opened<const N: usize>(
     rt: &impl Print,
-    name: &[u8],
+    name: &str,
     bytes: &[u8],
-    words: &mut [u32],
-    due: u64,
-    after: &[u32],
+    due: Number,
+    after: [u32; N],
 ) -> io::Result<()> {
-    lines::answer(rt, name, open(bytes, words), due)?;
-    lines::list(rt, b"  the directory", words, after)
+    let mut words = [7; N];
+    line(rt, name, Answer(open(bytes, &mut words)), Answer(due))?;
+    line(rt, "  the directory", List(&words), List(&after))
 }
 
-// The row count of the record, or the C number of the refusal.
-fn open(bytes: &[u8], words: &mut [u32]) -> u64 {
-    match opening::open(bytes, words) {
-        Opened::Index(record) => record.row_count as u64,
-        Opened::Refused(e) => codes::of_number(Number::Refused(e)),
-    }
+// The row count of the record.
+fn open(bytes: &[u8], words: &mut [u32]) -> Number {
+    opening::open(bytes, words).map(|record| record.row_count)
 }

@@ -17,7 +17,7 @@ pub extern "C" fn optional_index_contains(bytes: &[u8], row: u32) -> u64
 pub extern "C" fn optional_index_rank(bytes: &[u8], row: u32) -> u64
     ensures { CallOwes bytes.now (say_rank row) result }
 {
-    codes::of_number(one_shot::rank_once(bytes, row))
+    codes::of_answer(one_shot::rank_once(bytes, row))
 }
 
 // The member with a rank.
@@ -25,7 +25,7 @@ pub extern "C" fn optional_index_rank(bytes: &[u8], row: u32) -> u64
 pub extern "C" fn optional_index_select(bytes: &[u8], rank: u32) -> u64
     ensures { CallOwes bytes.now (say_select rank) result }
 {
-    codes::of_number(one_shot::select_once(bytes, rank))
+    codes::of_answer(one_shot::select_once(bytes, rank))
 }
 
 // The smallest member at or after a row, or "none".
@@ -33,5 +33,5 @@ pub extern "C" fn optional_index_select(bytes: &[u8], rank: u32) -> u64
 pub extern "C" fn optional_index_next(bytes: &[u8], row: u32) -> u64
     ensures { CallOwes bytes.now (say_next row) result }
 {
-    codes::of_found(one_shot::next_once(bytes, row))
+    codes::of_answer(one_shot::next_once(bytes, row))
 }

@@ -20,8 +20,8 @@ use Rattle.spec.proofs.Written.{Was-written, was_written}
 use Rattle.spec.proofs.Cut.{places_of}
 use Rattle.spec.proofs.Splits.{moved, rank_split, contains_split, lookup_split, select_split, next_split, rows_before_next, bytes_before_next, bytes_before_le, block_data, places_rise}
 use Rattle.spec.proofs.Questions.{rank_le, lookup_found, next_select, or_else}
-use Rattle.words.specs.declared.Place.{Place}
-use Rattle.words.specs.declared.Place.TheVariants as PlaceIs
+use Rattle.std.specs.Prelude.{Some, None}
+use Rattle.std.specs.Prelude.{Option as Maybe}
 use Rattle.words.specs.Part.{Holds, Of, placed}
 use Rattle.judging.specs.Phases.{judged}
 use Rattle.one_shot.specs.Accepted.{Accepted}
@@ -115,17 +115,17 @@ module _ {file : List ℕ} {rec : Record} {h : Head} {gs : List Block} (o : Open
     lookup_is r g = ap₂ moved before (g _ holds') ∙ sym (lookup_split rec.row_count gs well d)
 
     -- in the block, or else the first member of a later one
-    module _ (r : Place) (g : Of (part s.from s.to file) (λ ps. placed r ≡ next (d % size) ps)) where
+    module _ (r : Maybe ℕ) (g : Of (part s.from s.to file) (λ ps. placed r ≡ next (d % size) ps)) where
       next_is : or_else (moved (d / size * size) (placed r)) (next ((d / size + 1) * size) (rows_of gs)) ≡ next d (rows_of gs)
       next_is =
           ap (λ x. or_else (moved (d / size * size) x) (next ((d / size + 1) * size) (rows_of gs))) (g _ holds') ∙ sym (next_split rec.row_count gs well d)
 
-      pub next_here : (p : ℕ) → r ≡ PlaceIs.At p → some (65536 * (d / size) + p) ≡ next d (rows_of gs)
+      pub next_here : (p : ℕ) → r ≡ Some p → some (65536 * (d / size) + p) ≡ next d (rows_of gs)
       next_here p q =
           let there : 65536 * (d / size) + p ≡ d / size * size + p = omega arith in
           ap some there ∙ sym (ap (λ r. or_else (moved (d / size * size) (placed r)) (next ((d / size + 1) * size) (rows_of gs))) q) ∙ next_is
 
-      module _ (q : r ≡ PlaceIs.Nothing) (later : Spot) (f : later ≡ spot_from (d / size + 1) 0 rec.data_start (entries_of file)) where
+      module _ (q : r ≡ None) (later : Spot) (f : later ≡ spot_from (d / size + 1) 0 rec.data_start (entries_of file)) where
         behind : cond (ltb later.rows rec.populated) (some (select later.rows (rows_of gs))) none ≡ next d (rows_of gs)
         behind =
             let a = block_at later (d / size + 1) f in
@@ -182,6 +182,6 @@ module _ (file : List ℕ) (rec : Record) (y : AreBytes file) (a : Accepted file
     pub rank_small : (n : ℕ) → Of (part s.from s.to file) (λ ps. n ≡ rank (d % size) ps) → s.rows + n < 2 ^ 32
     rank_small n g = rank_fits (s.rows + n) d (λ h gs o. rank_is o s d e n g)
 
-    pub lookup_small : (r : Place) → Of (part s.from s.to file) (λ ps. placed r ≡ lookup (d % size) ps) → (n : ℕ) → r ≡ PlaceIs.At n → s.rows + n < 2 ^ 32
+    pub lookup_small : (r : Maybe ℕ) → Of (part s.from s.to file) (λ ps. placed r ≡ lookup (d % size) ps) → (n : ℕ) → r ≡ Some n → s.rows + n < 2 ^ 32
     lookup_small r g n q =
         rank_fits (s.rows + n) d (λ h gs o. (lookup_found d _ _ (sym (lookup_is o s d e (placed r) g) ∙ ap (λ p. moved s.rows (placed p)) q)).1)

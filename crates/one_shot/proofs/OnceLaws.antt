@@ -1,7 +1,10 @@
 -- What a one-shot question owes: the verdict's refusal, or what the set of an accepted file says.
 use Prim.Native.Nat.{ℕ, ◌≤◌, ◌<◌}
-use mathlib.Core.Path.{◌≡◌, refl, ap, ◌∙◌}
+use mathlib.Core.Path.{◌≡◌, refl, sym, ap, ◌∙◌}
 use mathlib.Core.List.{List}
+use mathlib.Core.Option.{Option}
+use Rattle.std.specs.Prelude.{Ok, Some, None}
+use Rattle.std.specs.Prelude.{Option as Maybe}
 use native.Mathlib.Omega.{arith}
 use lib.ListN.{length}
 use borrow.Author.Tests.{le-leb, lt-leb}
@@ -9,7 +12,8 @@ use Rattle.spec.specs.declared.Record.{Record}
 use Rattle.spec.specs.Set.{select}
 use Rattle.spec.specs.Layout.{Block, rows_of}
 use Rattle.spec.specs.Reading.{Head, Verdict, fault, holds, verdict, record_of}
-use Rattle.spec.specs.Answers.{Said, value, refused, once, OnceOwes, say_select}
+use Rattle.spec.specs.Answers.{Said, value, refused, found, or_nothing, once, OnceOwes, say_select}
+use Rattle.words.specs.Part.{placed}
 use Rattle.judging.specs.Phases.{judged}
 use Rattle.one_shot.specs.Accepted.{Accepted, Says}
 
@@ -28,6 +32,16 @@ owes_set file question rec s a says = go (verdict file) refl
     go : (v : Verdict) → verdict file ≡ v → OnceOwes file question s
     go (fault j) p = absurd (let f : value rec ≡ refused j = a ∙ ap judged p in let z : ◌≡◌ {A = ℕ} 0 1 = cc in omega arith)
     go (holds h gs) p = says h gs p ∙ rw p
+
+-- a value, or none
+pub owes_found : (file : List ℕ) (question : List ℕ → Said ℕ) (find : List ℕ → Option ℕ) (rec : Record) (r : Maybe ℕ) → Accepted file rec
+    → Says file (λ xs. placed r ≡ find xs) → ((xs : List ℕ) → question xs ≡ or_nothing (find xs)) → OnceOwes file question (found (Ok r))
+owes_found file question find rec r a says q =
+    owes_set file question rec (found (Ok r)) a (λ h gs v. found_placed r ∙ ap or_nothing (says h gs v) ∙ sym (q (rows_of gs)))
+  where
+    found_placed : (r : Maybe ℕ) → found (Ok r) ≡ or_nothing (placed r)
+    found_placed (Some v) = refl
+    found_placed None = refl
 
 -- ---- select: 9 where k is at or above n
 

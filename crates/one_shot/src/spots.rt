@@ -3,7 +3,7 @@ ghost use Rattle.std.specs.Prelude.{◌≡◌, ◌+◌, ◌*◌, ◌≤◌, leng
 ghost use Rattle.spec.specs.Reading.{entry_count, entries_of};
 ghost use Rattle.one_shot.specs.Spots.{spot_from, holder_from};
 
-#[derive(Clone, Copy)]
+#[derive(Clone, Copy, Debug, PartialEq, Eq)]
 pub(crate) struct Spot {
     pub number: u16,
     pub rows: usize,
@@ -16,13 +16,10 @@ pub(crate) fn of_block(bytes: &[u8], start: u32, number: u16) -> Spot
     requires { 4 * entry_count bytes.now + 2 ≤ length bytes.now }
     ensures { result ≡ spot_from number 0 start (entries_of bytes.now) }
 {
-    let end = bytes.len() - 2;
-    let mut left = words::le::u16_at(bytes, end) as usize;
-    let mut entry = end - 4 * left;
     let mut rows = 0;
     let mut from = start as usize;
-    while 0 < left {
-        let x = judging::entries::entry_at(bytes, entry);
+    for four in judging::entries::table(bytes) {
+        let x = words::entry::from_bytes(*four);
         let to = from + words::block::data_size(x.rows as usize);
         if x.number == number {
             return Spot {
@@ -40,10 +37,8 @@ pub(crate) fn of_block(bytes: &[u8], start: u32, number: u16) -> Spot
                 to: from,
             };
         }
-        rows = rows + x.rows as usize;
+        rows += x.rows as usize;
         from = to;
-        entry += 4;
-        left -= 1;
     }
     Spot {
         number,
@@ -58,13 +53,10 @@ pub(crate) fn of_rank(bytes: &[u8], start: u32, k: u32) -> Spot
     requires { 4 * entry_count bytes.now + 2 ≤ length bytes.now }
     ensures { result ≡ holder_from k 0 start (entries_of bytes.now) }
 {
-    let end = bytes.len() - 2;
-    let mut left = words::le::u16_at(bytes, end) as usize;
-    let mut entry = end - 4 * left;
     let mut rows = 0;
     let mut from = start as usize;
-    while 0 < left {
-        let x = judging::entries::entry_at(bytes, entry);
+    for four in judging::entries::table(bytes) {
+        let x = words::entry::from_bytes(*four);
         let to = from + words::block::data_size(x.rows as usize);
         let after = rows + x.rows as usize;
         if (k as usize) < after {
@@ -77,8 +69,6 @@ pub(crate) fn of_rank(bytes: &[u8], start: u32, k: u32) -> Spot
         }
         rows = after;
         from = to;
-        entry += 4;
-        left -= 1;
     }
     Spot {
         number: 0,

@@ -1,3 +1,4 @@
+pub mod NeighbourLaws
 pub mod RowLaws
 pub mod RunLaws
 pub mod MeasureLaws

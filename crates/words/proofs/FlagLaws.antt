@@ -2,7 +2,7 @@
 -- or above what the one before it asks, `past`. What was seen so far, with what is left of the list, decides the whole.
 use Prim.Native.Nat.{ℕ, zero, suc, ◌+◌, ◌-◌, ◌≤◌, ◌<◌, zero-le}
 use mathlib.Core.Path.{◌≡◌, sym, ap, ◌∙◌}
-use mathlib.Core.Bool.{Bool, true, false, ◌&&◌}
+use mathlib.Core.Bool.{Bool, true, false, ◌&&◌, and-false, and-true}
 use mathlib.Core.List.{List, [], ◌∷◌}
 use native.Mathlib.Numerals.{add-one}
 use native.Mathlib.Omega.{arith}
@@ -11,7 +11,6 @@ use lib.Seq.{drop-cons}
 use lib.Dec.{leb}
 use borrow.Author.Tests.{leb-true, le-leb, lt-leb}
 use Rattle.spec.proofs.Tests.{and_true}
-use Rattle.words.proofs.TestLaws.{and_no, and_yes}
 
 -- such a test
 pub record Climbing (past : ℕ → ℕ) (climbs : ℕ → List ℕ → Bool) : Type 0 where
@@ -41,7 +40,7 @@ module _ {past : ℕ → ℕ} {climbs : ℕ → List ℕ → Bool} (c : Climbing
     flag_falls l =
         record {
           from = omega arith;
-          left = sym (and_no ok) ∙ ap (λ t. ok && t) (sym (step ∙ rw (lt-leb (past (get_or xs (i - 1) 0)) (get_or xs i 0) l))) ∙ f.left;
+          left = sym (and-false ok) ∙ ap (λ t. ok && t) (sym (step ∙ rw (lt-leb (past (get_or xs (i - 1) 0)) (get_or xs i 0) l))) ∙ f.left;
         }
 
     pub flag_climbs : past (get_or xs (i - 1) 0) ≤ get_or xs i 0 → Flagged past climbs xs ok (i + 1)
@@ -53,7 +52,7 @@ module _ {past : ℕ → ℕ} {climbs : ℕ → List ℕ → Bool} (c : Climbing
 
   pub flag_end : (xs : List ℕ) (ok : Bool) (i : ℕ) → Flagged past climbs xs ok i → length xs ≤ i → ok ≡ climbs 0 xs
   flag_end xs ok i f h =
-      sym (and_yes ok) ∙ ap (λ t. ok && t) (sym (c.none (past (get_or xs (i - 1) 0))))
+      sym (and-true ok) ∙ ap (λ t. ok && t) (sym (c.none (past (get_or xs (i - 1) 0))))
       ∙ ap (λ l. ok && climbs (past (get_or xs (i - 1) 0)) l) (sym (drop_of_length-le xs {i = i} h)) ∙ f.left
 
   -- where an element asks for no less than itself, none is below an earlier one

@@ -1,7 +1,7 @@
 -- Tests as numbers and in conjunctions.
 use Prim.Native.Nat.{ℕ, ◌*◌, ◌≤◌}
-use mathlib.Core.Path.{◌≡◌, refl}
-use mathlib.Core.Bool.{Bool, true, false, ◌&&◌}
+use mathlib.Core.Path.{◌≡◌}
+use mathlib.Core.Bool.{Bool, true, false, ◌&&◌, and-false, and-true}
 use native.Mathlib.Omega.{arith}
 use Rattle.spec.specs.Set.{bit}
 
@@ -11,9 +11,7 @@ times_bit n m true e = rw e (omega arith)
 times_bit n m false e = rw e (omega arith)
 
 pub and_no : (b : Bool) → b && false ≡ false
-and_no true = refl
-and_no false = refl
+and_no = and-false
 
 pub and_yes : (b : Bool) → b && true ≡ b
-and_yes true = refl
-and_yes false = refl
+and_yes = and-true

@@ -12,9 +12,9 @@ pub fn block_count(row_count: u32) -> usize
     (row_count as usize).div_ceil(65536)
 }
 
-// The data bytes of a block of n rows.
+// The data bytes of a block of n rows: two for each row, and from 5,120 rows on the 10,240 of a dense block.
 pub fn data_size(n: usize) -> usize
     ensures { result ≡ size_of_data n }
 {
-    if n < 5120 { 2 * n } else { 10240 }
+    2 * n.min(5120)
 }

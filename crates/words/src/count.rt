@@ -61,6 +61,7 @@ pub fn write(out: &mut [u8], count: u32) -> usize
 {
     let mut rest = count;
     let mut i = 0;
+    // What is left of the number ends the loop: a `for` would first need `size`, which tests it again.
     while 128 <= rest {
         out[i] = (rest % 128) as u8;
         rest /= 128;

@@ -1,4 +1,5 @@
 // A block's entry in four bytes: its number, and its rows minus one, so that 65,536 rows are stored as 65535.
+// Functions, and no `From`: neither type is of this crate, and the way to bytes has a `requires`.
 ghost use Rattle.std.specs.Prelude.{◌≡◌, ◌≤◌};
 ghost use Rattle.spec.specs.Reading.{entry_in};
 ghost use Rattle.spec.specs.Layout.{entry_bytes};

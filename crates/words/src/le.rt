@@ -28,6 +28,7 @@ pub fn write(d: &mut [u8], i: usize, w: usize, n: u64)
     }
 }
 
+// By `read`, and not `from_le_bytes`: what holds of little-endian numbers is proved once, for every width.
 pub fn u16_at(s: &[u8], i: usize) -> u16
     requires { i + 2 ≤ length s.now }
     ensures { result ≡ number_in (part i (i + 2) s.now) }
@@ -35,6 +36,7 @@ pub fn u16_at(s: &[u8], i: usize) -> u16
     read(s, i, 2) as u16
 }
 
+// By `write`, and not `to_le_bytes`, for the same reason.
 pub fn put_u16(d: &mut [u8], i: usize, n: u16)
     requires { i + 2 ≤ length d.old }
     ensures { d.new ≡ sets d.old i (bytes_of 2 n) }

@@ -46,15 +46,15 @@ fn put_blocks(out: &mut [u8], at: usize, to: usize, rows: &[u32])
     requires room { (at + length (all_data (blocks rows.now)) ≤ to) × (to + 4 * length (blocks rows.now) ≤ length out.old) }
     ensures { out.new ≡ sets (sets out.old at (all_data (blocks rows.now))) to (all_entries (blocks rows.now)) }
 {
-    let mut a = at;
-    let mut b = to;
-    let mut i = 0;
-    while i < rows.len() {
-        let end = rows::block_run(rows, i);
-        put_block(out, a, b, &rows[i..end]);
-        a = a + words::block::data_size(end - i);
-        b += 4;
-        i = end;
+    let mut data_at = at;
+    let mut entry_at = to;
+    let mut rest = rows;
+    while !rest.is_empty() {
+        let (run, more) = rest.split_at(rows::block_run(rest, 0));
+        put_block(out, data_at, entry_at, run);
+        data_at += words::block::data_size(run.len());
+        entry_at += 4;
+        rest = more;
     }
 }
 
@@ -72,10 +72,11 @@ fn put_block(out: &mut [u8], at: usize, to: usize, rows: &[u32])
         number,
         rows: n as u32,
     });
-    words::copy(&entry, 0, out, to, 4);
+    out[to..to + 4].copy_from_slice(&entry);
 }
 
 // The data of the rows of one block, which fill out.
+#[tactic(auto, using(crate::proofs::PutLaws::data_few, crate::proofs::PutLaws::data_many))]
 fn put_data(out: &mut [u8], rows: &[u32])
     requires out_long { length out.old ≡ size_of_data (length rows.now) }
     requires rows_rise { rising 0 size (places rows.now) ≡ true }
@@ -83,7 +84,7 @@ fn put_data(out: &mut [u8], rows: &[u32])
 {
     if rows.len() < 5120 {
         sparse::write(rows, out);
-        return;
+    } else {
+        dense::write(rows, out);
     }
-    dense::write(rows, out);
 }

@@ -1,15 +1,15 @@
 -- `one_shot::lookup_once` meets its contract: the verdict's refusal, or what the set says. Assumes nothing.
-use mathlib.Core.Path.{sym, ap, ◌∙◌}
-use Rattle.spec.specs.Answers.{opened, or_nothing, say_lookup}
-use Rattle.one_shot.proofs.OnceLaws.{owes_refusal, owes_set}
+use mathlib.Core.Path.{refl}
+use Rattle.spec.specs.Set.{lookup}
+use Rattle.std.proofs.lemmas.Result.{err_from_is_err_and}
+use Rattle.spec.specs.Answers.{say_lookup}
+use Rattle.one_shot.proofs.OnceLaws.{owes_refusal, owes_found}
 use Rattle.one_shot.proofs.lookup_once.Goals as goal
 
-pub returns-in-Refused : goal.returns-in-Refused
-returns-in-Refused c = owes_refusal _ _ _ (sym (ap opened c.in-Refused.is) ∙ c.judge.ensures)
+pub returns-in_err-file : goal.returns-in_err-file
+returns-in_err-file c =
+    let p = err_from_is_err_and c.from_residual.result c.from_residual.ensures.1 in
+    rw (p.1, p.2) (owes_refusal _ _ _ (c.in_err-file.ensures {u = tt}).refusal)
 
-pub returns-in-Index : goal.returns-in-Index
-returns-in-Index c =
-    owes_set _ (say_lookup c.args.row) _ _ (sym (ap opened c.in-Index.is) ∙ c.judge.ensures) (λ h gs v. c.told.ensures ∙ ap or_nothing (c.lookup.ensures h gs v))
-
-pub lookup-requires : goal.lookup-requires
-lookup-requires c = sym (ap opened c.in-Index.is) ∙ c.judge.ensures
+pub returns : goal.returns
+returns c = rw (c.in_ok-file.ensures {u = tt}).is at (owes_found _ (say_lookup c.args.row) (lookup c.args.row) _ _ c.in_ok-file.file.accepted c.lookup.ensures (λ xs. refl))

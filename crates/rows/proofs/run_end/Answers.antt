@@ -1,28 +1,23 @@
 use Prim.Native.Nat.{◌+◌}
+use mathlib.Core.Path.{◌≡◌}
 use native.Mathlib.Omega.{arith}
+use Rattle.std.proofs.Common.{rules}
+use Rattle.std.proofs.lemmas.List.Sorted.{IsPartitionPoint-from_clause}
+use lib.Dec.{ltb}
+use Rattle.spec.specs.Reading.{part}
+use Rattle.rows.proofs.RowLaws.{parted, gallop_end}
 use Rattle.rows.proofs.run_end.Goals as goal
-
-pub loop-step-init : goal.loop-step-init
-loop-step-init c = record { inside = c.requires.from_in_bounds.0; below = c.requires.from_in_bounds.1; some = omega arith }
-
-pub overflow_cast-rows : goal.overflow_cast-rows
-overflow_cast-rows c = omega (arith, c.type_inv.rows (c.loop-step.at + c.loop-step.step))
-
-pub halve-requires : goal.halve-requires
-halve-requires c =
-    let g = c.loop-step.invariant in
-    record { le_few = (g.some, omega arith, g.below); end_bound = (λ l. c.if-end-rows.true); never_falls = c.requires.never_falls }
-
-pub returns-then-end-rows : goal.returns-then-end-rows
-returns-then-end-rows c = c.halve.ensures
-
-pub loop-step-preserved : goal.loop-step-preserved
-loop-step-preserved c = record { inside = omega arith; below = c.if-end-rows.false; some = omega arith }
-
-pub halve-requires-2 : goal.halve-requires-2
-halve-requires-2 c =
-    let g = c.loop-step.invariant in
-    record { le_few = (omega (arith, g.inside), omega (arith, g.inside), g.below); end_bound = (λ l. absurd (omega (arith, g.inside))); never_falls = c.requires.never_falls }
+use Rattle.rows.proofs.run_end.Goals.{then-loop-step-test+else-rows-at, else-loop-step-test}
 
 pub returns : goal.returns
-returns c = c.halve-2.ensures
+unfolding part
+returns c =
+    gallop_end c.requires.never_falls c.min-few.result c.loop-step.invariant (omega (arith, c.min-few.ensures, c.loop-step.invariant.within))
+    (λ l. elim c.loop-step-test.branch [
+      | then-loop-step-test+else-rows-at w ↦
+          let e : c.min-few.result ≡ c.loop-step.step = omega (arith, c.min-few.ensures, w.loop-step-test.true) in rw e (omega (arith, w.if-rows-at.false))
+      | else-loop-step-test w ↦ absurd (omega (arith, l, c.min-few.ensures, w.loop-step-test.false))
+    ])
+    c.partition_point.ensures.bound
+    (IsPartitionPoint-from_clause (λ y. ltb y c.args.end) _ _ c.partition_point.ensures.partitioned
+    (parted c.args.rows.now c.args.end c.loop-step.at (c.loop-step.at + c.min-few.result) c.requires.never_falls) (λ a r q k. search rules))

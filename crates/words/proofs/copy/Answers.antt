@@ -10,5 +10,6 @@ unfolding part
 returns c =
     let a = c.args in
     let wide : a.b + a.w - a.b ≡ a.w = omega arith in
-    let copied = part_back (part a.a (a.a + a.w) a.s.now) a.d.now a.b a.w (length_part a.a (a.a + a.w) a.s.now (omega arith) (omega arith) ∙ omega arith) (omega arith) in
+    let long = length_part a.a (a.a + a.w) a.s.now (omega arith) c.requires.0 ∙ omega arith in
+    let copied = part_back (part a.a (a.a + a.w) a.s.now) a.d.now a.b a.w long c.requires.1 in
     rw (wide, c.copy_from_slice.ensures.after) copied

@@ -1,24 +1,24 @@
 use Rattle.std.proofs.Common.{arith}
 use Rattle.batches.proofs.HitLaws.{seeking_none, seeking_hit, seeking_miss, seeking_all}
 use Rattle.batches.proofs.lookups.in_order.Goals as goal
+use Rattle.batches.proofs.lookups.in_order.Goals.{in-Some, in_default}
 
-pub loop-i-init : goal.loop-i-init
-loop-i-init c = seeking_none _ _ _ _ _ _
+pub loop-row-init : goal.loop-row-init
+loop-row-init c = seeking_none _ _ _ _ _ _
 
-pub look-requires : goal.look-requires
-look-requires c = c.requires.unbroken
-
-pub loop-i-preserved-in-At : goal.loop-i-preserved-in-At
-loop-i-preserved-in-At c = seeking_hit c.loop-i.invariant (omega arith) c.look.ensures _ c.in-At.is
-
-pub loop-i-preserved : goal.loop-i-preserved
-loop-i-preserved c = seeking_miss c.loop-i.invariant (omega arith) c.look.ensures c.in-Nothing.is
+pub loop-row-preserved : goal.loop-row-preserved
+loop-row-preserved c =
+    let l = c.loop-row.invariant in
+    elim c.match-lookup.branch [
+      | in-Some w ↦ rw (w.rows-is, w.ranks-is, w.n-is) (seeking_hit l (omega arith) c.lookup.ensures _ w.in-Some.is)
+      | in_default w ↦ rw (w.rows-is, w.ranks-is, w.n-is) (seeking_miss l (omega arith) c.lookup.ensures w.in_default.is)
+    ]
 
 pub shape_of-rows : goal.shape_of-rows
-shape_of-rows c = c.loop-i.invariant.loose.rows_long
+shape_of-rows c = c.loop-row.invariant.loose.rows_long
 
 pub shape_of-ranks : goal.shape_of-ranks
-shape_of-ranks c = c.loop-i.invariant.loose.ranks_long
+shape_of-ranks c = c.loop-row.invariant.loose.ranks_long
 
 pub returns : goal.returns
-returns c = let p = c.requires.room in seeking_all c.loop-i.invariant (omega arith) p.0 p.1
+returns c = seeking_all c.loop-row.invariant (omega arith) c.requires.room.0 c.requires.room.1

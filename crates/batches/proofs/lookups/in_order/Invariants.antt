@@ -1,10 +1,6 @@
 -- `lookups::in_order` meets its contract. Assumes nothing.
-use Rattle.std.proofs.Common.{◌-◌, length}
 use Rattle.batches.proofs.HitLaws.{Seeking}
 use Rattle.batches.proofs.lookups.in_order.Given as goal
 
-abbrev pub invariant-loop-i : goal.invariant-loop-i
-invariant-loop-i l = Seeking l.bytes l.directory l.record l.questions l.initial.rows l.initial.ranks l.rows l.ranks l.n l.i
-
-abbrev pub decreases-loop-i : goal.decreases-loop-i
-decreases-loop-i l = length l.questions - l.i
+abbrev pub invariant-loop-row : goal.invariant-loop-row
+invariant-loop-row l = Seeking l.index.bytes.now l.index.directory.now l.index.record l.questions l.initial.rows l.initial.ranks l.rows l.ranks l.n l.row-index

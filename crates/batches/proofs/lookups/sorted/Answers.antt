@@ -6,16 +6,16 @@ use Rattle.batches.proofs.lookups.sorted.Goals as goal
 pub loop-i-init : goal.loop-i-init
 loop-i-init c = seeking_none _ _ _ _ _ _
 
-pub shape_of-rows-then-record-row : goal.shape_of-rows-then-record-row
-shape_of-rows-then-record-row c = c.loop-i.invariant.loose.rows_long
+pub shape_of-rows-then-index-row : goal.shape_of-rows-then-index-row
+shape_of-rows-then-index-row c = c.loop-i.invariant.loose.rows_long
 
-pub shape_of-ranks-then-record-row : goal.shape_of-ranks-then-record-row
-shape_of-ranks-then-record-row c = c.loop-i.invariant.loose.ranks_long
+pub shape_of-ranks-then-index-row : goal.shape_of-ranks-then-index-row
+shape_of-ranks-then-index-row c = c.loop-i.invariant.loose.ranks_long
 
-pub returns-then-record-row : goal.returns-then-record-row
-returns-then-record-row c =
+pub returns-then-index-row : goal.returns-then-index-row
+returns-then-index-row c =
     let p = c.requires.room in
-    let past = seeking_past c.loop-i.invariant (λ i. (c.type_inv.bytes i).fits) c.requires.never_falls (omega arith) c.if-record-row.true in
+    let past = seeking_past c.loop-i.invariant c.args.index.bytes_fit c.requires.never_falls (omega arith) c.if-index-row.true in
     rw (add-zero c.loop-i.n) at (seeking_all past (omega arith) p.0 p.1)
 
 pub run_end-to-requires : goal.run_end-to-requires
@@ -28,8 +28,7 @@ in_block-n-requires c =
     let r = ran _ _ _ c.loop-i-test.true c.requires.never_falls c.run_end-to.ensures in
     let f = l.invariant.loose in
     let many = r.many in record {
-      unbroken = c.requires.unbroken;
-      block_below = omega (arith, c.if-record-row.false);
+      block_below = omega (arith, c.if-index-row.false);
       never_falls = (r.falls, r.block);
       room = (
         omega (arith, length_tail l.n l.rows, f.fewer, f.rows_long, r.within, c.requires.room.0),

@@ -4,7 +4,7 @@ use Rattle.batches.proofs.SelectLaws.{replacing_start, rank_below, replacing_mor
 use Rattle.batches.proofs.selects.replace.Goals as goal
 
 pub loop-i-init : goal.loop-i-init
-loop-i-init c = replacing_start _ _ _ (λ i. (c.type_inv.bytes i).fits) _
+loop-i-init c = replacing_start _ _ _ c.args.index.bytes_fit _
 
 pub offset_bounds-ranks-i : goal.offset_bounds-ranks-i
 offset_bounds-ranks-i c = omega (arith, c.loop-i.invariant.long)
@@ -12,22 +12,11 @@ offset_bounds-ranks-i c = omega (arith, c.loop-i.invariant.long)
 pub block_of-block-requires : goal.block_of-block-requires
 block_of-block-requires c =
     let l = c.loop-i.invariant in
-    let u = unbroken _ _ _ c.requires.unbroken in
-    let n = c.block_count-blocks.ensures in
-    let k = rank_below _ _ _ (λ i. (c.type_inv.bytes i).fits) _ _ _ _ l c.requires.ranks_below (omega (arith, l.long)) in
-    (omega (arith, l.one (omega (arith, u.populated))), omega (arith, u.words))
-
-pub overflow_mul-block : goal.overflow_mul-block
-overflow_mul-block c = omega (arith, c.block_of-block.ensures.one)
+    let k = rank_below _ _ _ c.args.index.bytes_fit _ _ _ _ l c.requires (omega (arith, l.long)) in
+    l.one (omega (arith, (unbroken _ _ _ c.args.index.unbroken).populated))
 
 pub overflow_add-block : goal.overflow_add-block
 overflow_add-block c = omega (arith, c.block_of-block.ensures.one)
-
-pub offset_bounds-directory-block : goal.offset_bounds-directory-block
-offset_bounds-directory-block c = omega (arith, c.block_of-block.ensures.one)
-
-pub bounds-directory-block : goal.bounds-directory-block
-bounds-directory-block c = omega (arith, c.block_of-block.ensures.one, c.block_count-blocks.ensures, (unbroken _ _ _ c.requires.unbroken).words)
 
 pub slice_bounds-fill_in-count : goal.slice_bounds-fill_in-count
 slice_bounds-fill_in-count c = omega (arith, c.run_end-to.ensures.some)
@@ -38,21 +27,17 @@ slice_bounds-fill_in-start c = omega (arith, c.run_end-to.ensures.some)
 pub slice_bounds-fill_in-end : goal.slice_bounds-fill_in-end
 slice_bounds-fill_in-end c = omega (arith, c.run_end-to.ensures.within)
 
-pub fill_in-requires : goal.fill_in-requires
-fill_in-requires c =
-    record { unbroken = c.requires.unbroken; block_below = omega (arith, c.block_of-block.ensures.one, c.block_count-blocks.ensures) }
-
 pub loop-i-smaller : goal.loop-i-smaller
 loop-i-smaller c = omega (arith, c.run_end-to.ensures.some, c.run_end-to.ensures.within, c.loop-i.invariant.long)
 
 pub loop-i-preserved : goal.loop-i-preserved
 loop-i-preserved c =
     let l = c.loop-i.invariant in
-    replacing_more _ _ _ (λ i. (c.type_inv.bytes i).fits) _ _ _ _ l _ _ _ c.requires.ranks_below (omega (arith, l.long))
-    (rw c.block_count-blocks.ensures at c.block_of-block.ensures) c.run_end-to.ensures c.fill_in.ensures
+    replacing_more _ _ _ c.args.index.bytes_fit _ _ _ _ l _ _ _ c.requires (omega (arith, l.long)) c.block_of-block.ensures
+    (rw c.rows_before.ensures at c.run_end-to.ensures) c.fill_in.ensures
 
 pub shape_of-ranks : goal.shape_of-ranks
 shape_of-ranks c = c.loop-i.invariant.long
 
 pub returns : goal.returns
-returns c = let l = c.loop-i.invariant in replacing_end _ _ _ (λ i. (c.type_inv.bytes i).fits) _ _ _ _ l (omega (arith, l.long))
+returns c = let l = c.loop-i.invariant in replacing_end _ _ _ c.args.index.bytes_fit _ _ _ _ l (omega (arith, l.long))

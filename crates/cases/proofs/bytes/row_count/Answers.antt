@@ -11,8 +11,8 @@ pub slice_bounds-out-end : goal.slice_bounds-out-end
 slice_bounds-out-end g c =
     omega (arith, c.write-n.ensures.long, simp length-sets at (ap length c.write-n.ensures.wrote), groups_length 4 c.args.count)
 
-pub slice_bounds-bytes-end : goal.slice_bounds-bytes-end
-slice_bounds-bytes-end g c =
+pub slice_bounds-line-end : goal.slice_bounds-line-end
+slice_bounds-line-end g c =
     let room : c.write-n.result ≤ length c.write-n.new.out =
     omega (arith, c.write-n.ensures.long, simp length-sets at (ap length c.write-n.ensures.wrote), groups_length 4 c.args.count) in
     sym (length-take-le _ _ room)

@@ -1,17 +1,13 @@
-use native.Mathlib.Omega.{arith}
-use Rattle.spec.specs.Set.{rank}
-use Rattle.spec.proofs.Steps.{left_none, left_more, left_all, rank_below, rank_above}
+use mathlib.Core.Path.{◌∙◌}
+use borrow.Author.Tests.{tests}
+use Rattle.std.proofs.Common.{rules}
+use Rattle.std.proofs.lemmas.Iterator.{YieldsList-from_slice}
+use Rattle.std.proofs.lemmas.Iterator.Consumers.{count_from_yields_List, YieldsList-from_filter, YieldsList-at}
+use Rattle.cases.proofs.SetLaws.{rank_filter}
 use Rattle.cases.proofs.set.rank.Goals as goal
 
-pub loop-i-init : goal.loop-i-init
-loop-i-init c = (omega arith, left_none _ _)
-
-pub loop-i-preserved-then-row-d : goal.loop-i-preserved-then-row-d
-loop-i-preserved-then-row-d c = (omega arith, left_more c.loop-i.invariant.1 _ (omega arith) (λ xs. omega (arith, rank_below _ _ xs c.if-row-d.true)))
-
-pub loop-i-preserved : goal.loop-i-preserved
-loop-i-preserved c = (omega arith, left_more c.loop-i.invariant.1 _ (omega arith) (λ xs. omega (arith, rank_above _ _ xs c.if-row-d.false)))
-
 pub returns : goal.returns
-unfolding rank
-returns c = omega (arith, left_all c.loop-i.invariant.1 (omega arith))
+returns c =
+    count_from_yields_List _ _ c.count.ensures.ran
+    (YieldsList-from_filter _ _ (YieldsList-at c.filter.ensures.source (YieldsList-from_slice c.args.rows.now c.iter.ensures.rest)) c.filter.ensures.closure (λ x b q k. search (rules, tests)))
+    ∙ rank_filter _ _

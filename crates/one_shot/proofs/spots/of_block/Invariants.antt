@@ -4,8 +4,5 @@ use Rattle.one_shot.specs.Spots.{spot_from}
 use Rattle.one_shot.proofs.WalkLaws.{Leading}
 use Rattle.one_shot.proofs.spots.of_block.Given as goal
 
-abbrev pub invariant-loop-left : goal.invariant-loop-left
-invariant-loop-left l = Leading (spot_from l.number) l.bytes (spot_from l.number 0 l.start (entries_of l.bytes)) l.rows l.from l.entry l.left
-
-abbrev pub decreases-loop-left : goal.decreases-loop-left
-decreases-loop-left l = l.left
+abbrev pub invariant-loop-four : goal.invariant-loop-four
+invariant-loop-four l = Leading (spot_from l.number) l.four-items (spot_from l.number 0 l.start (entries_of l.bytes)) l.rows l.from l.four-index

@@ -4,8 +4,5 @@ use Rattle.one_shot.specs.Spots.{holder_from}
 use Rattle.one_shot.proofs.WalkLaws.{Leading}
 use Rattle.one_shot.proofs.spots.of_rank.Given as goal
 
-abbrev pub invariant-loop-left : goal.invariant-loop-left
-invariant-loop-left l = Leading (holder_from l.k) l.bytes (holder_from l.k 0 l.start (entries_of l.bytes)) l.rows l.from l.entry l.left
-
-abbrev pub decreases-loop-left : goal.decreases-loop-left
-decreases-loop-left l = l.left
+abbrev pub invariant-loop-four : goal.invariant-loop-four
+invariant-loop-four l = Leading (holder_from l.k) l.four-items (holder_from l.k 0 l.start (entries_of l.bytes)) l.rows l.from l.four-index

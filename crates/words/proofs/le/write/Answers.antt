@@ -1,4 +1,4 @@
-use Rattle.std.proofs.Common.{◌+◌, ◌-◌, ◌≡◌, ◌∙◌, length, arith}
+use Rattle.std.proofs.Common.{◌+◌, ◌-◌, ◌≡◌, ◌∙◌, arith}
 use Rattle.spec.specs.Layout.{bytes_of}
 use Rattle.spec.specs.Reading.{part}
 use Rattle.spec.proofs.Bytes.{length_bytes, length_part}

@@ -1,8 +1,0 @@
--- `one_shot::accepted::part` meets its contract. Assumes nothing.
-use mathlib.Core.Path.{refl}
-use Rattle.spec.specs.Reading.{part}
-use Rattle.one_shot.proofs.accepted.part.Goals as goal
-
-pub returns : goal.returns
-unfolding part
-returns c = refl
