@@ -1,5 +1,5 @@
 -- Entries, one after the other: what is left of them decides the whole, and what those that are right add up to.
-use Prim.Native.Nat.{ℕ, suc, ◌+◌, ◌-◌, ◌*◌, ◌≤◌, ◌<◌}
+use Prim.Native.Nat.{ℕ, ◌+◌, ◌*◌, ◌≤◌, ◌<◌}
 use mathlib.Core.Path.{◌≡◌, sym, ap, ap₂, ◌∙◌}
 use mathlib.Core.Bool.{true, false, ◌&&◌}
 use mathlib.Core.List.{List, [], ◌∷◌, map}
@@ -12,56 +12,12 @@ use borrow.Author.Tests.{leb-true, ltb-true}
 use Rattle.std.proofs.lemmas.List.{at_drop_all}
 use Rattle.std.specs.Prelude.{Option, Some, None}
 use Rattle.spec.specs.declared.Entry.{Entry}
-use Rattle.spec.specs.Reading.{count_of_blocks, rows_at, part, entry_in, entries_at, entries_ok, size_of_data, data_sizes}
+use Rattle.spec.specs.Reading.{count_of_blocks, rows_at, entry_in, entries_ok, size_of_data, data_sizes}
 use Rattle.spec.proofs.Tests.{and_true}
-use Rattle.spec.proofs.Bytes.{part_none}
 use Rattle.spec.proofs.Content.{size_le}
-use Rattle.words.proofs.LeLaws.{part_first}
 use Rattle.judging.proofs.TableLaws.{left, left_some}
 use Rattle.judging.specs.Phases.{is_entry, row_sum, totals_from}
 use Rattle.judging.specs.declared.entries.Totals.{Totals}
-
--- ---- four bytes, one by one
-
-pub four_bytes : (at : ℕ) (s : List ℕ) → at + 4 ≤ length s → part at (at + 4) s ≡ get_or s at 0 ∷ get_or s (at + 1) 0 ∷ get_or s (at + 2) 0 ∷ get_or s (at + 3) 0 ∷ []
-four_bytes at s h =
-    let a : suc at ≡ at + 1 = omega arith in
-    let b : suc (at + 1) ≡ at + 2 = omega arith in
-    let c : suc (at + 2) ≡ at + 3 = omega arith in
-    let d : at + 4 ≤ suc (at + 3) = omega arith in
-    rw (
-      part_first at (at + 4) s (omega arith) (omega arith),
-      a,
-      part_first (at + 1) (at + 4) s (omega arith) (omega arith),
-      b,
-      part_first (at + 2) (at + 4) s (omega arith) (omega arith),
-      c,
-      part_first (at + 3) (at + 4) s (omega arith) (omega arith),
-      part_none (suc (at + 3)) (at + 4) s d,
-    )
-
--- ---- a turn for each entry
-
--- f of the entries left, which begin at an index, is what all of them give
-pub record Walk {A : Type 0} (f : List Entry → A) (all : A) (file : List ℕ) (at left : ℕ) : Type 0 where
-  pub within : at + 4 * left ≤ length file
-  pub same : f (entries_at left at file) ≡ all
-
-module _ {A : Type 0} {f : List Entry → A} {all : A} {file : List ℕ} {at left : ℕ} (w : Walk f all file at left) where
-  pub walk_some : (x : Entry) → 0 < left → x ≡ entry_in (part at (at + 4) file) → f (x ∷ entries_at (left - 1) (at + 4) file) ≡ all
-  unfolding entries_at
-  walk_some x h e =
-      let l : left ≡ suc (left - 1) = omega arith in
-      ap (λ y. f (y ∷ entries_at (left - 1) (at + 4) file)) e ∙ ap (λ n. f (entries_at n at file)) (sym l) ∙ w.same
-
-  pub walk_more : (g : List Entry → A) (x : Entry) → 0 < left → x ≡ entry_in (part at (at + 4) file) → ((es : List Entry) → f (x ∷ es) ≡ g es)
-      → Walk g all file (at + 4) (left - 1)
-  walk_more g x h e s =
-      let l = w.within in record { within = omega arith; same = sym (s (entries_at (left - 1) (at + 4) file)) ∙ walk_some x h e }
-
-  pub walk_all : left ≤ 0 → f [] ≡ all
-  unfolding entries_at
-  walk_all h = let z : 0 ≡ left = omega arith in ap (λ n. f (entries_at n at file)) z ∙ w.same
 
 -- ---- the first entry
 

@@ -96,6 +96,9 @@ right_sums count t es e =
 pub entry_count_back : (file : List ℕ) (n : ℕ) → 2 ≤ length file → n ≡ number_in (part (length file - 2) (length file - 2 + 2) file) → n ≡ entry_count file
 entry_count_back file n h e = let l : length file - 2 + 2 ≡ length file = omega arith in e ∙ ap (λ to. number_in (part (length file - 2) to file)) l
 
+pub counted : (file : List ℕ) {head : Head} {n : ℕ} → head_of file ≡ Ok head → n ≡ number_in (part (length file - 2) (length file - 2 + 2) file) → n ≡ entry_count file
+counted file {head} {n} e q = entry_count_back file n (omega (arith, (headed file head e).upto)) q
+
 pub says_overlap : (file : List ℕ) (h : R.Head) → Headed file h → length file < h.start + 4 * entry_count file + 2 → refused 6 ≡ judged (verdict file)
 says_overlap file h hd l = rw (overlap_6 file h hd.read hd.unpadded hd.limited l)
 

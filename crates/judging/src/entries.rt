@@ -1,6 +1,6 @@
 // The entries of a file: 6, their numbers do not increase below B, or one has more rows than its block.
 ghost use Rattle.std.specs.Prelude.{◌≡◌, ◌+◌, ◌*◌, ◌≤◌, length, map};
-ghost use Rattle.spec.specs.Reading.{rows_at, part, entry_in, entry_count, entries_of};
+ghost use Rattle.spec.specs.Reading.{rows_at, entry_in, entry_count, entries_of};
 ghost use Rattle.judging.specs.Phases.{is_entry, totals};
 
 use spec::Entry;
@@ -62,14 +62,9 @@ fn entry_ok(x: Entry, low: u32, row_count: u32) -> bool
 pub(crate) fn rows_at(row_count: u32, number: u16) -> u32
     ensures { result ≡ rows_at row_count number }
 {
-    row_count.saturating_sub(number as u32 * 65536).min(65536)
-}
-
-// The entry in the four bytes from an index on.
-pub fn entry_at(bytes: &[u8], at: usize) -> Entry
-    requires { at + 4 ≤ length bytes.now }
-    ensures { result ≡ entry_in (part at (at + 4) bytes.now) }
-{
-    let four = [bytes[at], bytes[at + 1], bytes[at + 2], bytes[at + 3]];
-    words::entry::from_bytes(four)
+    let from = number as u32 * 65536;
+    if row_count <= from {
+        return 0;
+    }
+    (row_count - from).min(65536)
 }

@@ -1,5 +1,5 @@
 -- What open owes, from the verdict; and what an accepted file hands to the filling of its directory.
-use Prim.Native.Nat.{ℕ, ◌+◌, ◌*◌, ◌≤◌, ◌<◌}
+use Prim.Native.Nat.{ℕ, ◌+◌, ◌-◌, ◌*◌, ◌≤◌, ◌<◌}
 use mathlib.Core.Path.{◌≡◌, refl, sym, ap, ap₂, ◌∙◌}
 use mathlib.Core.Bool.{true}
 use mathlib.Core.List.{List, ◌++◌, map}
@@ -8,7 +8,7 @@ use borrow.Author.Tests.{lt-ltb, le-ltb}
 use lib.ListN.{length, drop}
 use lib.Seq.{sets}
 use Rattle.spec.specs.declared.Record.{Record}
-use Rattle.spec.specs.Reading.{entry_in, AreBytes, Verdict, fault, holds, verdict, entries_ok, entry_count, entries_of, record_of, count_of_blocks, directory_of, directory_length}
+use Rattle.spec.specs.Reading.{number_in, part, entry_in, AreBytes, Verdict, fault, holds, verdict, entries_ok, entry_count, entries_of, record_of, count_of_blocks, directory_of, directory_length}
 use Rattle.spec.specs.Answers.{value, refused, say_open, OpenOwes, directory_in}
 use Rattle.spec.proofs.Promises.{length_directory}
 use Rattle.spec.proofs.Accepted.{entries_pass}
@@ -16,6 +16,7 @@ use Rattle.spec.proofs.Written.{was_written}
 use Rattle.words.proofs.StoreLaws.{sets_front}
 use Rattle.judging.specs.Phases.{judged}
 use Rattle.judging.proofs.EntryLaws.{small_none}
+use Rattle.judging.proofs.JudgeLaws.{entry_count_back}
 use Rattle.opening.specs.Filling.{Accepts}
 use Rattle.opening.proofs.PairLaws.{runs, directory_runs}
 use Rattle.opening.proofs.FillLaws.{Filling}
@@ -73,6 +74,10 @@ filled file count y a =
       right = ap (entries_ok count 0) w.entries' ∙ entries_pass count 0 a.blocks w.well;
       runs' = ap (runs (count_of_blocks count) 0 0 0) w.entries' ∙ sym (directory_runs count a.blocks w.well) ∙ sym (ap directory_in a.verdict');
     }
+
+-- so many entries, as they are read
+pub counted : {file : List ℕ} {count n : ℕ} → Filled file count → n ≡ number_in (part (length file - 2) (length file - 2 + 2) file) → n ≡ entry_count file
+counted {file} {n = n} f q = entry_count_back file n (omega (arith, f.fits)) q
 
 pub fill_start : (file directory : List ℕ) (table : List (List ℕ)) (count : ℕ) → Filled file count → map entry_in table ≡ entries_of file
     → Filling directory table count (sets directory 0 (directory_in (verdict file))) directory 0 0 0 0
