@@ -1,5 +1,5 @@
 -- Batch lookup over an opened file: what a block says of rows of its own, the set says.
-use Rattle.std.proofs.Common.{◌≡◌, ℕ, suc, ◌+◌, ◌-◌, ◌*◌, ◌/◌, ◌%◌, ◌^◌, ◌<◌, ◌≤◌, false, List, [], ◌∷◌, ◌++◌, map, length, get_or, drop, sym, refl, ap, ◌∙◌, ap₂, arith}
+use Rattle.std.proofs.Common.{◌≡◌, ℕ, suc, ◌+◌, ◌-◌, ◌*◌, ◌/◌, ◌%◌, ◌^◌, ◌<◌, false, List, [], ◌∷◌, ◌++◌, map, length, get_or, drop, sym, refl, ap, ◌∙◌, ap₂, arith}
 use Rattle.spec.specs.declared.Record.{Record}
 use Rattle.spec.specs.Set.{keep, contains, rank, hits, ranks}
 use Rattle.spec.specs.Layout.{size, Block, rows_of}

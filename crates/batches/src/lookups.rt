@@ -22,7 +22,7 @@ pub(crate) fn sorted(index: Index, questions: &[u32], rows: &mut [u32], ranks: &
 {
     let mut n = 0;
     let mut i = 0;
-    // from run to run, so no for
+    // a turn takes a run of questions
     while i < questions.len() {
         let row = questions[i];
         if index.record.row_count <= row {

@@ -28,7 +28,7 @@ pub(crate) fn replace(index: Index, ranks: &mut [u32])
 {
     let mut block = 0;
     let mut i = 0;
-    // from run to run, so no for
+    // a turn takes a run of ranks
     while i < ranks.len() {
         let rank = ranks[i];
         block = block_of(index, block, rank);

@@ -1,10 +1,6 @@
 -- `lookups::in_block` meets its contract. Assumes nothing.
-use Rattle.std.proofs.Common.{rules}
 use Rattle.batches.proofs.LookupLaws.{block_hits}
 use Rattle.batches.proofs.lookups.in_block.Goals as goal
-
-pub batch-requires : goal.batch-requires
-batch-requires c = record { base_fits = search rules; never_falls = search rules; room = search rules }
 
 pub returns : goal.returns
 returns c =

@@ -14,11 +14,5 @@ loop-row-preserved c =
       | in_default w ↦ rw (w.rows-is, w.ranks-is, w.n-is) (seeking_miss l (omega arith) c.lookup.ensures w.in_default.is)
     ]
 
-pub shape_of-rows : goal.shape_of-rows
-shape_of-rows c = c.loop-row.invariant.loose.rows_long
-
-pub shape_of-ranks : goal.shape_of-ranks
-shape_of-ranks c = c.loop-row.invariant.loose.ranks_long
-
 pub returns : goal.returns
 returns c = seeking_all c.loop-row.invariant (omega arith) c.requires.room.0 c.requires.room.1

@@ -6,20 +6,11 @@ use Rattle.batches.proofs.lookups.sorted.Goals as goal
 pub loop-i-init : goal.loop-i-init
 loop-i-init c = seeking_none _ _ _ _ _ _
 
-pub shape_of-rows-then-index-row : goal.shape_of-rows-then-index-row
-shape_of-rows-then-index-row c = c.loop-i.invariant.loose.rows_long
-
-pub shape_of-ranks-then-index-row : goal.shape_of-ranks-then-index-row
-shape_of-ranks-then-index-row c = c.loop-i.invariant.loose.ranks_long
-
 pub returns-then-index-row : goal.returns-then-index-row
 returns-then-index-row c =
     let p = c.requires.room in
     let past = seeking_past c.loop-i.invariant c.args.index.bytes_fit c.requires.never_falls (omega arith) c.if-index-row.true in
     rw (add-zero c.loop-i.n) at (seeking_all past (omega arith) p.0 p.1)
-
-pub run_end-to-requires : goal.run_end-to-requires
-run_end-to-requires c = record { from_in_bounds = (omega arith, omega arith); never_falls = c.requires.never_falls }
 
 pub in_block-n-requires : goal.in_block-n-requires
 unfolding part
@@ -53,12 +44,6 @@ loop-i-preserved c =
     let r = ran _ _ _ c.loop-i-test.true c.requires.never_falls c.run_end-to.ensures in
     seeking_run c.loop-i.invariant _ _ _ _ (omega (arith, r.some)) r.within p.0 p.1 c.in_block-n.ensures
     c.in_block-n.auto.rows c.in_block-n.auto.ranks
-
-pub shape_of-rows : goal.shape_of-rows
-shape_of-rows c = c.loop-i.invariant.loose.rows_long
-
-pub shape_of-ranks : goal.shape_of-ranks
-shape_of-ranks c = c.loop-i.invariant.loose.ranks_long
 
 pub returns : goal.returns
 returns c = let p = c.requires.room in seeking_all c.loop-i.invariant (omega arith) p.0 p.1

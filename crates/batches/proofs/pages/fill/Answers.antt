@@ -14,9 +14,6 @@ pub returns-then-done-rows : goal.returns-then-done-rows
 returns-then-done-rows c =
     let l = c.loop-block.invariant in paging_end _ _ _ c.args.index.bytes_fit _ _ _ _ _ l (omega (arith, l.long, c.if-done-rows.true))
 
-pub slice_bounds-fill_in-end : goal.slice_bounds-fill_in-end
-slice_bounds-fill_in-end c = omega (arith, c.room.ensures)
-
 pub loop-block-preserved : goal.loop-block-preserved
 loop-block-preserved c =
     let l = c.loop-block in

@@ -6,38 +6,17 @@ use Rattle.batches.proofs.selects.replace.Goals as goal
 pub loop-i-init : goal.loop-i-init
 loop-i-init c = replacing_start _ _ _ c.args.index.bytes_fit _
 
-pub offset_bounds-ranks-i : goal.offset_bounds-ranks-i
-offset_bounds-ranks-i c = omega (arith, c.loop-i.invariant.long)
-
 pub block_of-block-requires : goal.block_of-block-requires
 block_of-block-requires c =
     let l = c.loop-i.invariant in
     let k = rank_below _ _ _ c.args.index.bytes_fit _ _ _ _ l c.requires (omega (arith, l.long)) in
     l.one (omega (arith, (unbroken _ _ _ c.args.index.unbroken).populated))
 
-pub overflow_add-block : goal.overflow_add-block
-overflow_add-block c = omega (arith, c.block_of-block.ensures.one)
-
-pub slice_bounds-fill_in-count : goal.slice_bounds-fill_in-count
-slice_bounds-fill_in-count c = omega (arith, c.run_end-to.ensures.some)
-
-pub slice_bounds-fill_in-start : goal.slice_bounds-fill_in-start
-slice_bounds-fill_in-start c = omega (arith, c.run_end-to.ensures.some)
-
-pub slice_bounds-fill_in-end : goal.slice_bounds-fill_in-end
-slice_bounds-fill_in-end c = omega (arith, c.run_end-to.ensures.within)
-
-pub loop-i-smaller : goal.loop-i-smaller
-loop-i-smaller c = omega (arith, c.run_end-to.ensures.some, c.run_end-to.ensures.within, c.loop-i.invariant.long)
-
 pub loop-i-preserved : goal.loop-i-preserved
 loop-i-preserved c =
     let l = c.loop-i.invariant in
     replacing_more _ _ _ c.args.index.bytes_fit _ _ _ _ l _ _ _ c.requires (omega (arith, l.long)) c.block_of-block.ensures
     (rw c.rows_before.ensures at c.run_end-to.ensures) c.fill_in.ensures
-
-pub shape_of-ranks : goal.shape_of-ranks
-shape_of-ranks c = c.loop-i.invariant.long
 
 pub returns : goal.returns
 returns c = let l = c.loop-i.invariant in replacing_end _ _ _ c.args.index.bytes_fit _ _ _ _ l (omega (arith, l.long))
