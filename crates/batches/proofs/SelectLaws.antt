@@ -25,8 +25,8 @@ run_one ks i end h =
       below = λ l. omega arith;
     }
 
-pub run_more : (ks : List ℕ) (i end n : ℕ) → Run ks i end (i + n) → n < min (length ks - i) (end - get_or ks i 0) → get_or ks (i + n) 0 ≡ get_or ks i 0 + n
-    → Run ks i end (i + (n + 1))
+pub run_more : (ks : List ℕ) (i end n : ℕ) → Run ks i end (i + n) → n < min (length ks - i) (end - get_or ks i 0)
+    → get_or ks (i + n) 0 ≡ get_or ks i 0 + n → Run ks i end (i + (n + 1))
 run_more ks i end n r l q =
     record {
       some = omega arith;
