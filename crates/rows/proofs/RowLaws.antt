@@ -1,10 +1,10 @@
 -- Rows that rise: neighbours, the search for the end of those below a bound, and the first fault.
-use Prim.Native.Nat.{ℕ, zero, suc, ◌+◌, ◌-◌, ◌/◌, ◌≤◌, ◌<◌, zero-le}
+use Prim.Native.Nat.{ℕ, suc, ◌+◌, ◌-◌, ◌/◌, ◌≤◌, ◌<◌}
 use mathlib.Core.Path.{◌≡◌, refl}
 use mathlib.Core.Bool.{true}
 use mathlib.Core.List.{List, [], ◌∷◌}
 use native.Mathlib.Omega.{arith}
-use lib.ListN.{length, get_or, drop}
+use lib.ListN.{length, get_or}
 use lib.Dec.{leb}
 use borrow.Author.Tests.{leb-true, le-leb}
 use Rattle.spec.proofs.Tests.{and_true}
@@ -80,14 +80,6 @@ pub rising_ascends : (low end : ℕ) (xs : List ℕ) → Rising low end xs → a
 unfolding ascends
 rising_ascends low end [] r = refl
 rising_ascends low end (x ∷ xs) r = rw (le-leb low x r.0) (rising_ascends (suc x) end xs r.2)
-
--- what is left of them ascends
-pub ascends_drop : (n low : ℕ) (xs : List ℕ) → ascends low xs ≡ true → ascends 0 (drop n xs) ≡ true
-unfolding ascends
-ascends_drop zero low [] e = refl
-ascends_drop zero low (x ∷ xs) e = rw (le-leb 0 x zero-le) (and_true (leb low x) (ascends (suc x) xs) e).1
-ascends_drop (suc n) low [] e = refl
-ascends_drop (suc n) low (x ∷ xs) e = ascends_drop n (suc x) xs (and_true (leb low x) (ascends (suc x) xs) e).1
 
 -- the last row below the row count, if there is one
 pub no_fault : (count : ℕ) (rows : List ℕ) → ascends 0 rows ≡ true → (0 < length rows → get_or rows (length rows - 1) 0 < count) → row_fault count 0 rows ≡ none

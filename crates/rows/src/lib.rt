@@ -106,12 +106,13 @@ pub fn measure(rows: &[u32]) -> Shape
 {
     let mut data = 0;
     let mut entries = 0;
-    let mut rest = rows;
-    while !rest.is_empty() {
-        let (run, more) = rest.split_at(block_run(rest, 0));
-        data += words::block::data_size(run.len());
+    let mut i = 0;
+    // by index: with each run split off the rest, writing few rows a block took up to 1.3 times as long
+    while i < rows.len() {
+        let to = block_run(rows, i);
+        data += words::block::data_size(to - i);
         entries += 1;
-        rest = more;
+        i = to;
     }
     Shape { data, entries }
 }
