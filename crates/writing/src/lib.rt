@@ -77,7 +77,7 @@ fn put_block(out: &mut [u8], at: usize, to: usize, rows: &[u32])
 }
 
 // The data of the rows of one block, which fill out.
-#[tactic(auto, using(crate::proofs::PutLaws::data_few, crate::proofs::PutLaws::data_many))]
+#[tactic(auto, using(crate::proofs::BlockLaws::data_few, crate::proofs::BlockLaws::data_many))]
 fn put_data(out: &mut [u8], rows: &[u32])
     requires out_long { length out.old ≡ size_of_data (length rows.now) }
     requires rows_rise { rising 0 size (places rows.now) ≡ true }
