@@ -1,3 +1,4 @@
+pub mod BlockLaws
 pub mod PutLaws
 pub mod FileLaws
 pub mod CallLaws

@@ -11,7 +11,7 @@ overflow_cast-rows c = omega (arith, c.type_inv.rows (c.loop-step.at + c.loop-st
 pub halve-requires : goal.halve-requires
 halve-requires c =
     let g = c.loop-step.invariant in
-    record { le_few = (g.some, omega arith, g.below); end_bound = (λ l. c.if-end-rows.true); never_falls = c.requires.never_falls }
+    record { le_few = (g.some, omega arith, g.below); end_bound = (λ l. omega (arith, c.if-end-rows.true)); never_falls = c.requires.never_falls }
 
 pub returns-then-end-rows : goal.returns-then-end-rows
 returns-then-end-rows c = c.halve.ensures

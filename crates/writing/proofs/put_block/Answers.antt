@@ -2,7 +2,7 @@
 use mathlib.Core.Path.{◌∙◌}
 use native.Mathlib.Omega.{arith}
 use lib.Seq.{length-sets}
-use Rattle.writing.proofs.PutLaws.{rows_fit, data_laid, entry_laid}
+use Rattle.writing.proofs.BlockLaws.{rows_fit, data_laid, entry_laid}
 use Rattle.writing.proofs.put_block.Goals as goal
 
 pub overflow_cast-n : goal.overflow_cast-n
