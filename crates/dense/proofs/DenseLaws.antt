@@ -1,5 +1,6 @@
 -- A dense block's part of the file: what its mini-blocks store are the words and the running counts of the places that it holds.
-use Rattle.std.proofs.Common.{◌≡◌, ℕ, zero, suc, ◌+◌, ◌-◌, ◌*◌, ◌/◌, ◌%◌, ◌<◌, leb, List, [], ◌++◌, length, sym, refl, ap, ◌∙◌, ap₂, append_assoc, append-nil, add-zero, suc-add, zero-add, div-add-mod, arith, length-append, leb-false, leb-true}
+use Rattle.std.proofs.Common.{◌≡◌, ℕ, zero, suc, ◌+◌, ◌-◌, ◌*◌, ◌/◌, ◌%◌, ◌<◌, leb, List, [], ◌++◌, length, sym, refl, ap, ◌∙◌, ap₂, append_assoc, append-nil, add-zero, suc-add, zero-add, arith, length-append, leb-false, leb-true}
+use native.Mathlib.Nat.{div-add-mod}
 use Rattle.spec.specs.Set.{contains, rank}
 use Rattle.spec.specs.Layout.{bytes_of, size, word, mini_block, mini_blocks}
 use Rattle.spec.specs.Reading.{number_in, bits, word_at, count_at}

@@ -1,6 +1,6 @@
 -- The turns of a page of a block: what is filled, with the places left of a word and those of the mini-blocks behind it, are the block's
 -- rows from an index on.
-use Rattle.std.proofs.Common.{◌≡◌, ℕ, zero, suc, ◌+◌, ◌-◌, ◌*◌, ◌%◌, ◌^◌, ◌<◌, ◌≤◌, List, [], ◌∷◌, ◌++◌, map, length, take, drop, set, sym, refl, ap, ◌∙◌, ap₂, ⊎_elim, lt_of_le_of_lt, eq-zero-or-pos, zero-add, arith, length-append, length-drop, length-set, length-take, take_all}
+use Rattle.std.proofs.Common.{◌≡◌, ℕ, ◌+◌, ◌-◌, ◌*◌, ◌%◌, ◌^◌, ◌<◌, ◌≤◌, List, [], ◌∷◌, ◌++◌, map, length, take, drop, set, sym, refl, ap, ◌∙◌, ap₂, ⊎_elim, lt_of_le_of_lt, eq-zero-or-pos, zero-add, arith, length-append, length-drop, length-set, length-take, take_all}
 use lib.ListN.{length-map}
 use lib.Seq.{drop-append-le, drop-append-add}
 use lib.Bits.{bit_and, and_le_l}
