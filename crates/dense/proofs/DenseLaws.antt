@@ -1,5 +1,6 @@
 -- A dense block's part of the file: what its mini-blocks store are the words and the running counts of the places that it holds.
 use Rattle.std.proofs.Common.{◌≡◌, ℕ, zero, suc, ◌+◌, ◌-◌, ◌*◌, ◌/◌, ◌%◌, ◌<◌, leb, List, [], ◌++◌, length, sym, refl, ap, ◌∙◌, ap₂, append_assoc, append-nil, add-zero, suc-add, zero-add, arith, length-append, leb-false, leb-true}
+use native.Mathlib.Nat.{div-add-mod}
 use Rattle.spec.specs.Set.{contains, rank}
 use Rattle.spec.specs.Layout.{bytes_of, size, word, mini_block, mini_blocks}
 use Rattle.spec.specs.Reading.{number_in, bits, word_at, count_at}
@@ -103,18 +104,14 @@ module _ (bs ps : List ℕ) (long : length bs ≡ 10240) (h : Holds bs ps) where
 
 -- ---- the questions of a place, of the word and the running count that its mini-block stores
 
--- its mini-block and its bit
-same_place : (p : ℕ) → 64 * (p / 64) + p % 64 ≡ p
-same_place p = omega arith
-
 module _ {bs : List ℕ} (long : length bs ≡ 10240) (p : ℕ) (l : p < 65536) where
   pub contains_stored : {w : ℕ} → w ≡ word_at (p / 64) bs → Of bs (λ ps. contains (p % 64) (bits 64 0 w) ≡ contains p ps)
   contains_stored {w} e ps h =
       ap (λ w. contains (p % 64) (bits 64 0 w)) (e ∙ stored_word bs ps long h (p / 64) (omega arith))
-      ∙ sym (contains_place ps (rises bs ps long h) (p / 64) (p % 64) (omega arith)) ∙ ap (λ p. contains p ps) (same_place p)
+      ∙ sym (contains_place ps (rises bs ps long h) (p / 64) (p % 64) (omega arith)) ∙ ap (λ p. contains p ps) (div-add-mod p 64)
 
   pub rank_stored : {x : DenseMiniBlock} → MiniAt bs (p / 64) x → Of bs (λ ps. x.rank + rank (p % 64) (bits 64 0 x.bitvec) ≡ rank p ps)
   rank_stored {x} a ps h =
       ap₂ (λ c w. c + rank (p % 64) (bits 64 0 w))
       (a.count ∙ stored_count bs ps long h (p / 64) (omega arith)) (a.word ∙ stored_word bs ps long h (p / 64) (omega arith))
-      ∙ sym (rank_place ps (rises bs ps long h) (p / 64) (p % 64) (omega arith)) ∙ ap (λ p. rank p ps) (same_place p)
+      ∙ sym (rank_place ps (rises bs ps long h) (p / 64) (p % 64) (omega arith)) ∙ ap (λ p. rank p ps) (div-add-mod p 64)

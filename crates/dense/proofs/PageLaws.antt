@@ -1,10 +1,11 @@
 -- The turns of a page of a block: what is filled, with the places left of a word and those of the mini-blocks behind it, are the block's
 -- rows from an index on.
-use Rattle.std.proofs.Common.{◌≡◌, ℕ, zero, suc, ◌+◌, ◌-◌, ◌*◌, ◌%◌, ◌^◌, ◌<◌, ◌≤◌, List, [], ◌∷◌, ◌++◌, map, length, take, drop, set, sym, refl, ap, ◌∙◌, ap₂, ⊎_elim, lt_of_le_of_lt, eq-zero-or-pos, zero-add, arith, length-append, length-drop, length-set, length-take, take_all}
+use Rattle.std.proofs.Common.{◌≡◌, ℕ, ◌+◌, ◌-◌, ◌*◌, ◌%◌, ◌^◌, ◌<◌, ◌≤◌, List, [], ◌∷◌, ◌++◌, map, length, take, drop, set, sym, refl, ap, ◌∙◌, ap₂, ⊎_elim, lt_of_le_of_lt, eq-zero-or-pos, zero-add, arith, length-append, length-drop, length-set, length-take, take_all}
 use lib.ListN.{length-map}
 use lib.Seq.{drop-append-le, drop-append-add}
 use lib.Bits.{bit_and, and_le_l}
 use lib.Count.{count_trailing_zeros}
+use Rattle.std.proofs.lemmas.List.{drop-map}
 use Rattle.spec.specs.Set.{rank}
 use Rattle.spec.specs.Layout.{size, word_from, word}
 use Rattle.spec.specs.Reading.{bits, word_at}
@@ -111,11 +112,6 @@ pub record Listing (bs : List ℕ) (base from : ℕ) (out₀ out : List ℕ) (m 
   pub long : length out ≡ length out₀
   pub filled : Of bs (λ ps. from < length ps → take j out ++ rows_from base (left m w ps) ≡ drop from (rows_from base ps))
 
-drop_map : (f : ℕ → ℕ) (n : ℕ) (l : List ℕ) → map f (drop n l) ≡ drop n (map f l)
-drop_map f zero l = refl
-drop_map f (suc n) [] = refl
-drop_map f (suc n) (x ∷ l) = drop_map f n l
-
 pub list_first : {bs : List ℕ} {base from m n w : ℕ} {x : DenseMiniBlock} (out : List ℕ) → length bs ≡ 10240 → LastMini bs from m → MiniAt bs m x
     → (n + x.rank) % 2 ^ 32 ≡ from → n < 2 ^ 32 → ((p : ℕ) → bits 64 p w ≡ drop n (bits 64 p x.bitvec))
     → w < 2 ^ 64 → Listing bs base from out out m w 0
@@ -130,7 +126,7 @@ list_first {bs} {base} {from} {m} {n} {w} {x} out long last a e h q u =
           let is : from ≡ rank (64 * m) ps + n = omega (arith, count, a.count, (last.1 ps d).0) in
           let cleared : bits 64 (64 * m) w ≡ drop n (bits 64 (64 * m) (word m ps)) =
           q (64 * m) ∙ ap (λ w. drop n (bits 64 (64 * m) w)) (a.word ∙ stored_word bs ps long d m last.0) in
-          ap (map (λ p. base + p)) (sym (left_first m from n w ps r last.0 is ((last.1 ps d).1 l) cleared)) ∙ drop_map (λ p. base + p) from ps;
+          ap (map (λ p. base + p)) (sym (left_first m from n w ps r last.0 is ((last.1 ps d).1 l) cleared)) ∙ sym (drop-map (λ p. base + p) from ps);
     }
 
 module _ {bs : List ℕ} {base from : ℕ} {out₀ out : List ℕ} {m w j : ℕ} (long : length bs ≡ 10240) (l : Listing bs base from out₀ out m w j) where

@@ -8,12 +8,13 @@ use lib.ListN.{length, get_or, length-append, length-map}
 use lib.Dec.{eqb, ltb}
 use borrow.Author.Tests.{eqb-true, ltb-true, ltb-false}
 use Rattle.std.proofs.lemmas.List.{at_drop_all}
+use Rattle.std.proofs.lemmas.Bool.{and_parts}
 use Rattle.spec.specs.declared.Entry.{Entry}
 use Rattle.spec.specs.Set.{rising}
 use Rattle.spec.specs.Layout.{size, dense, rows_of}
 use Rattle.spec.specs.Reading.{rows_at, part, entry_in, size_of_data, data_sizes, places_in, counts_ok, is_content, contents_ok, blocks_at}
 use Rattle.spec.proofs.Content.{size_sparse}
-use Rattle.spec.proofs.Tests.{and_true, by_test}
+use Rattle.spec.proofs.Tests.{by_test}
 use Rattle.judging.specs.Phases.{row_sum}
 use Rattle.judging.proofs.TableLaws.{left, left_some}
 
@@ -57,15 +58,15 @@ content_many : (n end : ℕ) (bs : List ℕ) → is_content n end bs ≡ true �
 unfolding is_content
 content_many n end bs e =
     let ps = places_in n bs in
-    let p = and_true (rising 0 end ps && eqb (length ps) n) (cond (dense n) (counts_ok 1024 0 ps bs) true) e in
-    eqb-true (length ps) n (and_true (rising 0 end ps) (eqb (length ps) n) p.0).1
+    let p = and_parts (rising 0 end ps && eqb (length ps) n) (cond (dense n) (counts_ok 1024 0 ps bs) true) e in
+    eqb-true (length ps) n (and_parts (rising 0 end ps) (eqb (length ps) n) p.0).1
 
 pub contents_many : (count at : ℕ) (file : List ℕ) (es : List Entry) → contents_ok count es at file ≡ true → length (rows_of (blocks_at es at file)) ≡ row_sum es
 unfolding contents_ok blocks_at rows_of row_sum flat_map
 contents_many count at file [] e = refl
 contents_many count at file (x ∷ es) e =
     let bs = part at (at + size_of_data x.rows) file in
-    let p = and_true (is_content x.rows (rows_at count x.number) bs) (contents_ok count es (at + size_of_data x.rows) file) e in
+    let p = and_parts (is_content x.rows (rows_at count x.number) bs) (contents_ok count es (at + size_of_data x.rows) file) e in
     let ps = places_in x.rows bs in
     length-append (map (λ p. x.number * size + p) ps) (rows_of (blocks_at es (at + size_of_data x.rows) file))
     ∙ ap₂ (λ a b. a + b) (length-map ps (λ p. x.number * size + p) ∙ content_many x.rows (rows_at count x.number) bs p.0)

@@ -11,9 +11,9 @@ use lib.Dec.{leb, ltb}
 use borrow.Author.Tests.{leb-true, ltb-true}
 use Rattle.std.proofs.lemmas.List.{at_drop_all}
 use Rattle.std.specs.Prelude.{Option, Some, None}
+use Rattle.std.proofs.lemmas.Bool.{and_parts}
 use Rattle.spec.specs.declared.Entry.{Entry}
 use Rattle.spec.specs.Reading.{count_of_blocks, rows_at, entry_in, entries_ok, size_of_data, data_sizes}
-use Rattle.spec.proofs.Tests.{and_true}
 use Rattle.spec.proofs.Content.{size_le}
 use Rattle.judging.proofs.TableLaws.{left, left_some}
 use Rattle.judging.specs.Phases.{is_entry, row_sum, totals_from}
@@ -29,8 +29,8 @@ pub record Right (count low : ℕ) (x : Entry) : Type 0 where
 
 pub right : (count low : ℕ) (x : Entry) → is_entry count low x ≡ true → Right count low x
 right count low x e =
-    let p = and_true (leb low x.number && ltb x.number (count_of_blocks count)) (leb x.rows (rows_at count x.number)) e in
-    let q = and_true (leb low x.number) (ltb x.number (count_of_blocks count)) p.0 in
+    let p = and_parts (leb low x.number && ltb x.number (count_of_blocks count)) (leb x.rows (rows_at count x.number)) e in
+    let q = and_parts (leb low x.number) (ltb x.number (count_of_blocks count)) p.0 in
     record { from = leb-true _ _ q.0; inside = ltb-true _ _ q.1; few = leb-true _ _ p.1 }
 
 module _ (count low rows bytes : ℕ) (x : Entry) (es : List Entry) where

@@ -10,8 +10,9 @@ use lib.ListN.{length}
 use lib.Dec.{eqb}
 use lib.Bits.{bit_and, bit_or, and_mask, and_high, or_add_and}
 use lib.Count.{ones, ones_step}
-use lib.Pow.{pow_pos, shl_exact, shr-shr, field, mod-mod-pow}
+use lib.Pow.{pow_pos, shr-shr, field, mod-mod-pow}
 use borrow.Author.Tests.{eq-eqb, ne_eqb, eqb-true, eqb-false, lt-ltb}
+use Rattle.std.proofs.lemmas.Nat.{one_shl}
 use Rattle.spec.specs.Set.{contains, rank}
 use Rattle.spec.specs.Reading.{bits}
 use Rattle.spec.proofs.Tests.{by_test}
@@ -93,10 +94,6 @@ length_bits f p w h =
 
 -- ---- one bit
 
--- `1 << n`
-pub shl_one : (n : ℕ) → n < 64 → (1 * 2 ^ n) % 2 ^ 64 ≡ 2 ^ n
-shl_one n h = shl_exact 1 n 64 (omega arith) (omega arith) ∙ one-mul (2 ^ n)
-
 -- a word and it
 and_bit : (w n : ℕ) → bit_and w (2 ^ n) ≡ w / 2 ^ n % 2 * 2 ^ n
 and_bit w n = let e : 2 ^ (1 + n) - 2 ^ n ≡ 2 ^ n = rw one-add (omega (arith, pow-suc 2 n)) in rw e at (and_high w 1 n)
@@ -104,18 +101,18 @@ and_bit w n = let e : 2 ^ (1 + n) - 2 ^ n ≡ 2 ^ n = rw one-add (omega (arith, 
 -- `w & (1 << n) != 0` asks for place n
 pub test_bit : (w n : ℕ) → n < 64 → not (eqb (bit_and w ((1 * 2 ^ n) % 2 ^ 64)) 0) ≡ contains n (bits 64 0 w)
 test_bit w n h =
-    rw (shl_one n h, and_bit w n, contains_bit n w h)
+    rw (one_shl n 64 h, and_bit w n, contains_bit n w h)
     (by_parity (w / 2 ^ n) (λ e. rw (e, zero-mul)) (λ e. rw (e, one-mul) (ap not (ne_eqb (2 ^ n) 0 (λ z. omega (arith, pow_pos n))))))
 
 -- `w | (1 << n)` adds it
 pub or_bit : (w n : ℕ) → n < 64 → bit_or w ((1 * 2 ^ n) % 2 ^ 64) ≡ cond (contains n (bits 64 0 w)) w (w + 2 ^ n)
 or_bit w n h =
     let sum : bit_or w (2 ^ n) + w / 2 ^ n % 2 * 2 ^ n ≡ w + 2 ^ n = rw and_bit at (or_add_and w (2 ^ n)) in
-    rw (shl_one n h, contains_bit n w h)
+    rw (one_shl n 64 h, contains_bit n w h)
     (by_parity (w / 2 ^ n) (λ e. rw e (omega (arith, rw (e, zero-mul) at sum))) (λ e. rw e (omega (arith, rw (e, one-mul) at sum))))
 
 -- the ones of `w & ((1 << n) - 1)` are the places below n
 pub ones_mask : (w n : ℕ) → n < 64 → ones (bit_and w ((1 * 2 ^ n) % 2 ^ 64 - 1)) ≡ rank n (bits 64 0 w)
 ones_mask w n h =
     let z : 0 + n ≡ n = omega arith in
-    rw (shl_one n h, and_mask w n) (sym (rw z at (rank_bits 64 0 n w (omega arith))))
+    rw (one_shl n 64 h, and_mask w n) (sym (rw z at (rank_bits 64 0 n w (omega arith))))

@@ -16,7 +16,6 @@ use borrow.Author.Tests.{eq-eqb, ne_eqb, eqb-true, eqb-false, lt-leb, le-leb, lt
 use Rattle.spec.specs.Set.{next, below}
 use Rattle.spec.specs.Reading.{bits}
 use Rattle.spec.proofs.Tests.{by_test}
-use Rattle.spec.proofs.Rising.{rising_between}
 use Rattle.spec.proofs.Questions.{next_low}
 use Rattle.spec.proofs.Words.{bits_rising}
 use Rattle.mini.proofs.BitLaws.{by_parity, bits_odd, bits_even, no_bits, half_pow}
@@ -82,12 +81,6 @@ lowest_first f p w h l =
     let some : 0 < length (bits f p w) = bits_some f p w h l in
     let first = first_place f p w some in
     drop-cons (bits f p w) 0 0 some ∙ ap₂ (λ x xs. x ∷ xs) (sym first) (sym (cleared_lowest f p w l))
-
--- and the first is one of its f bits
-pub zeros_lt : (f w : ℕ) → w < 2 ^ f → 0 < w → count_trailing_zeros f w < f
-zeros_lt f w h l =
-    let some : 0 < length (bits f 0 w) = bits_some f 0 w h l in
-    omega (arith, first_place f 0 w some, rising_between 0 0 (0 + f) (bits f 0 w) some (bits_rising f 0 w))
 
 -- ---- the word v that is left of w when its i lowest bits are cleared
 

@@ -8,9 +8,9 @@ use native.Mathlib.Omega.{arith}
 use lib.ListN.{length, get_or, set, length-set}
 use lib.Seq.{sets, length-sets}
 use Rattle.std.proofs.lemmas.List.{at_drop_all}
+use Rattle.std.proofs.lemmas.Bool.{and_parts}
 use Rattle.spec.specs.declared.Entry.{Entry}
 use Rattle.spec.specs.Reading.{count_of_blocks, entry_in, entries_ok, size_of_data}
-use Rattle.spec.proofs.Tests.{and_true}
 use Rattle.words.proofs.StoreLaws.{sets_append}
 use Rattle.judging.specs.Phases.{is_entry}
 use Rattle.judging.proofs.TableLaws.{left, left_some}
@@ -63,7 +63,7 @@ module _ {d₀ : List ℕ} {table : List (List ℕ)} {count : ℕ} {all d : List
 
     first : (is_entry count b x ≡ true) × (entries_ok count (suc x.number) (left table (i + 1)) ≡ true)
     unfolding entries_ok
-    first = and_true (is_entry count b x) (entries_ok count (suc x.number) (left table (i + 1))) (rw next at f.entries)
+    first = and_parts (is_entry count b x) (entries_ok count (suc x.number) (left table (i + 1))) (rw next at f.entries)
 
     pub fill_right : Right count b x
     fill_right = right count b x first.0

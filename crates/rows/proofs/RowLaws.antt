@@ -7,8 +7,8 @@ use native.Mathlib.Omega.{arith}
 use lib.ListN.{length, get_or}
 use lib.Dec.{leb}
 use borrow.Author.Tests.{leb-true, le-leb}
-use Rattle.spec.proofs.Tests.{and_true}
 use mathlib.Core.Option.{none}
+use Rattle.std.proofs.lemmas.Bool.{and_parts}
 use Rattle.spec.specs.Answers.{row_fault}
 use Rattle.spec.proofs.Rising.{Rising}
 use Rattle.spec.proofs.Promises.{fault_none}
@@ -73,7 +73,7 @@ pub ascends_rising : (low end : ℕ) (xs : List ℕ) → ascends low xs ≡ true
 unfolding ascends
 ascends_rising low end [] e h = tt
 ascends_rising low end (x ∷ xs) e h =
-    let p = and_true (leb low x) (ascends (suc x) xs) e in
+    let p = and_parts (leb low x) (ascends (suc x) xs) e in
     (leb-true low x p.0, h 0 (omega arith), ascends_rising (suc x) end xs p.1 (λ k l. h (suc k) (omega arith)))
 
 pub rising_ascends : (low end : ℕ) (xs : List ℕ) → Rising low end xs → ascends low xs ≡ true

@@ -1,7 +1,7 @@
 -- The turns of the loops over a block's contents: one place more is checked, one place more is written.
 use Prim.Native.Nat.{ℕ, suc, ◌+◌, ◌*◌, ◌/◌, ◌%◌, ◌≤◌, ◌<◌}
 use mathlib.Core.Path.{◌≡◌, refl, sym, ap, ◌∙◌}
-use mathlib.Core.Bool.{Bool, true, false, ◌&&◌}
+use mathlib.Core.Bool.{Bool, true, ◌&&◌, and_assoc}
 use mathlib.Core.List.{List, [], ◌∷◌, map, flat_map, append-nil}
 use native.Mathlib.Numerals.{add-one}
 use native.Mathlib.Omega.{arith}
@@ -45,10 +45,6 @@ checking_none bs end h = record { within = h; same = go (places_said bs) }
     go : (ps : List ℕ) → rising (get_or ps 0 0) end ps ≡ rising 0 end ps
     go [] = refl
     go (x ∷ xs) = rw (le-leb x x (omega arith), le-leb 0 x (omega arith))
-
-and_assoc : (a b c : Bool) → (a && b) && c ≡ a && (b && c)
-and_assoc true b c = refl
-and_assoc false b c = refl
 
 module _ {bs : List ℕ} {end i : ℕ} {ok : Bool} (s : Checking bs end ok i) where
   pub checking_more : (p q : ℕ) → i + 1 < length bs / 2 → p ≡ get_or (places_said bs) i 0 → q ≡ get_or (places_said bs) (i + 1) 0 → Checking bs end (ok && ltb p q) (i + 1)

@@ -8,13 +8,14 @@ use native.Mathlib.Omega.{arith}
 use lib.ListN.{length, drop, get_or, length-map}
 use lib.Dec.{ltb}
 use borrow.Author.Tests.{ltb-false, eqb-true, not-false, lt-ltb, le-ltb, le-leb, lt-leb, eq-eqb}
+use Rattle.std.proofs.lemmas.Bool.{or_parts}
 use Rattle.spec.specs.declared.Record.{Record}
 use Rattle.spec.specs.Set.{bit, contains, rank, lookup, select, next, hits, ranks, selects, page}
 use Rattle.spec.specs.Layout.{Block, rows_of}
 use Rattle.spec.specs.Reading.{count_of_blocks, Head, Given}
 use Rattle.spec.specs.Answers.{Said, value, nothing, refused, or_nothing, broken, Asked, Free}
 use Rattle.spec.specs.Answers.{ContainsOwes, RankOwes, LookupOwes, NextOwes, SelectOwes, LookupBatchOwes, SelectBatchOwes, PageOwes}
-use Rattle.spec.proofs.Tests.{by_test, or_false}
+use Rattle.spec.proofs.Tests.{by_test}
 use Rattle.spec.proofs.Questions.{all_below, below_bad}
 
 -- ---- 10: exactly where one of these fails
@@ -32,13 +33,13 @@ module _ (file directory : List ℕ) (rec : Record) where
   pub unbroken : broken file directory rec ≡ false → Unbroken file directory rec
   unfolding broken
   unbroken e =
-      let a = or_false _ _ e in
-      let b = or_false _ _ a.1 in
-      let c = or_false _ _ b.1 in
-      let d = or_false _ _ c.1 in
-      let f = or_false _ _ d.1 in
-      let g = or_false _ _ f.1 in
-      let h = or_false _ _ g.1 in
+      let a = or_parts _ _ e in
+      let b = or_parts _ _ a.1 in
+      let c = or_parts _ _ b.1 in
+      let d = or_parts _ _ c.1 in
+      let f = or_parts _ _ d.1 in
+      let g = or_parts _ _ f.1 in
+      let h = or_parts _ _ g.1 in
       record {
         count = ltb-false _ _ a.0;
         populated = ltb-false _ _ b.0;

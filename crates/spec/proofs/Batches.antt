@@ -9,8 +9,10 @@ use lib.ListN.{length, get_or, take, drop, length-map, length-take, length-drop,
 use lib.Seq.{get_or-take, get_or-drop, drop-drop}
 use lib.Dec.{eqb}
 use borrow.Author.Tests.{eqb-true, eq-eqb}
+use Rattle.std.proofs.lemmas.Bool.{and_parts}
+use Rattle.std.proofs.lemmas.List.{get_or-map}
 use Rattle.spec.specs.Set.{contains, rank, lookup, select, hits, ranks, selects, page}
-use Rattle.spec.proofs.Tests.{by_test, and_true}
+use Rattle.spec.proofs.Tests.{by_test}
 use Rattle.spec.proofs.Questions.{member_contains}
 
 -- ---- batch lookup: the single lookups, one after another
@@ -63,13 +65,8 @@ contains_hits d xs (q ∷ qs) =
 
 -- ---- ranks and rows stand where their questions stand
 
-at_map : (f : ℕ → ℕ) (l : List ℕ) (i : ℕ) → i < length l → get_or (map f l) i 0 ≡ f (get_or l i 0)
-at_map f [] i h = absurd (omega arith)
-at_map f (x ∷ l) zero h = refl
-at_map f (x ∷ l) (suc i) h = at_map f l i (omega arith)
-
 pub ranks_at : (xs qs : List ℕ) (i : ℕ) → i < length qs → get_or (ranks xs qs) i 0 ≡ rank (get_or qs i 0) xs
-ranks_at xs qs = at_map (λ q. rank q xs) qs
+ranks_at xs qs i = get_or-map (λ q. rank q xs) qs i 0 0
 
 -- every hit is a member and a question, and its rank belongs to it
 pub hits_members : (xs qs : List ℕ) (i : ℕ) → i < length (hits xs qs)
@@ -77,12 +74,12 @@ pub hits_members : (xs qs : List ℕ) (i : ℕ) → i < length (hits xs qs)
     × (get_or (ranks xs (hits xs qs)) i 0 ≡ rank (get_or (hits xs qs) i 0) xs)
 hits_members xs qs i h =
     let d = get_or (hits xs qs) i 0 in
-    let p = and_true (contains d xs) (contains d qs) (sym (contains_hits d xs qs) ∙ member_contains i (hits xs qs) h) in
+    let p = and_parts (contains d xs) (contains d qs) (sym (contains_hits d xs qs) ∙ member_contains i (hits xs qs) h) in
     (p.0, p.1, ranks_at xs (hits xs qs) i h)
 
 -- batch select: each rank replaced in place by its row
 pub selects_at : (xs ks : List ℕ) (i : ℕ) → i < length ks → get_or (selects xs ks) i 0 ≡ select (get_or ks i 0) xs
-selects_at xs ks = at_map (λ k. select k xs) ks
+selects_at xs ks i = get_or-map (λ k. select k xs) ks i 0 0
 
 pub length_selects : (xs ks : List ℕ) → length (selects xs ks) ≡ length ks
 length_selects xs ks = length-map ks (λ k. select k xs)

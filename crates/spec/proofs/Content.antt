@@ -7,10 +7,11 @@ use native.Mathlib.Omega.{arith}
 use lib.ListN.{length, length-append}
 use lib.Dec.{eqb}
 use borrow.Author.Tests.{le-leb, lt-leb, leb-false, eqb-true, eq-eqb}
+use Rattle.std.proofs.lemmas.Bool.{and_parts}
 use Rattle.spec.specs.Set.{rising, rank}
 use Rattle.spec.specs.Layout.{bytes_of, size, sparse_data, word, mini_block, mini_blocks, dense, data_of, entry_of}
 use Rattle.spec.specs.Reading.{AreBytes, number_in, part, size_of_data, sparse_places, bits, word_at, count_at, dense_places, places_in, counts_ok, is_content}
-use Rattle.spec.proofs.Tests.{by_test, and_true}
+use Rattle.spec.proofs.Tests.{by_test}
 use Rattle.spec.proofs.Bytes.{length_bytes, number_bytes, part_at, part_join, part_none, part_all, part_number, part_number_lt, regroup, next_part, longer}
 use Rattle.spec.proofs.Rising.{Rising, rising_facts, rising_true, rising_widen, rising_append}
 use Rattle.spec.proofs.Questions.{rank_le_sub, rank_rest}
@@ -172,7 +173,7 @@ dense_written (suc f) m to pre bs r y e l k =
     let B = bits 64 (64 * m) (word_at m bs) in
     let rest = dense_places f (suc m) bs in
     let same : pre ++ (B ++ rest) ≡ (pre ++ B) ++ rest = sym (append_assoc pre B rest) in
-    let ok = and_true (eqb (count_at m bs) (rank (64 * m) (pre ++ (B ++ rest)))) (counts_ok f (suc m) (pre ++ (B ++ rest)) bs) k in
+    let ok = and_parts (eqb (count_at m bs) (rank (64 * m) (pre ++ (B ++ rest)))) (counts_ok f (suc m) (pre ++ (B ++ rest)) bs) k in
     let a : 64 * suc m ≡ 64 * m + 64 = omega arith in
     let b : 10 * suc m ≡ 10 * m + 10 = omega arith in
     let w : word m (pre ++ (B ++ rest)) ≡ word_at m bs =
@@ -195,8 +196,8 @@ pub record Block-written (n end : ℕ) (bs : List ℕ) : Type 0 where
 pub block_written : (n end : ℕ) (bs : List ℕ) → AreBytes bs → length bs ≡ size_of_data n → is_content n end bs ≡ true → Block-written n end bs
 unfolding is_content places_in data_of
 block_written n end bs y l k =
-    let a = and_true (rising 0 end (places_in n bs) && eqb (length (places_in n bs)) n) (cond (dense n) (counts_ok 1024 0 (places_in n bs) bs) true) k in
-    let b = and_true (rising 0 end (places_in n bs)) (eqb (length (places_in n bs)) n) a.0 in
+    let a = and_parts (rising 0 end (places_in n bs) && eqb (length (places_in n bs)) n) (cond (dense n) (counts_ok 1024 0 (places_in n bs) bs) true) k in
+    let b = and_parts (rising 0 end (places_in n bs)) (eqb (length (places_in n bs)) n) a.0 in
     let c : length (places_in n bs) ≡ n = eqb-true (length (places_in n bs)) n b.1 in
     record { many = c; bytes = rw c (go (dense n) l a.1); places = rising_facts 0 end (places_in n bs) b.0 }
   where

@@ -9,8 +9,9 @@ use native.Mathlib.Omega.{arith, by_contra}
 use lib.ListN.{length, get_or}
 use lib.Dec.{leb, ltb, eqb, leb-suc-suc}
 use borrow.Author.Tests.{ltb-true, ltb-false, eqb-true, le-leb, lt-leb, lt-ltb, le-ltb, eq-eqb}
+use Rattle.std.proofs.lemmas.Bool.{and_parts, and_from}
 use Rattle.spec.specs.Set.{contains, rank, lookup, select, next, below}
-use Rattle.spec.proofs.Tests.{by_test, and_true, true_and}
+use Rattle.spec.proofs.Tests.{by_test}
 use Rattle.spec.proofs.Rising.{Rising, rising_between, rising_from, rising_steps, rising_apart}
 
 -- ---- contains: yes exactly for the elements of the list
@@ -127,13 +128,13 @@ next_append t (x ∷ xs) ys = by_test (leb t x) (λ e. rw e) (λ e. rw e (next_a
 pub below_all : (n : ℕ) (ks : List ℕ) → below n ks ≡ true → (i : ℕ) → i < length ks → get_or ks i 0 < n
 unfolding below
 below_all n [] e i h = absurd (omega arith)
-below_all n (k ∷ ks) e zero h = ltb-true k n (and_true (ltb k n) (below n ks) e).0
-below_all n (k ∷ ks) e (suc i) h = below_all n ks (and_true (ltb k n) (below n ks) e).1 i (omega arith)
+below_all n (k ∷ ks) e zero h = ltb-true k n (and_parts (ltb k n) (below n ks) e).0
+below_all n (k ∷ ks) e (suc i) h = below_all n ks (and_parts (ltb k n) (below n ks) e).1 i (omega arith)
 
 pub all_below : (n : ℕ) (ks : List ℕ) → ((i : ℕ) → i < length ks → get_or ks i 0 < n) → below n ks ≡ true
 unfolding below
 all_below n [] h = refl
-all_below n (k ∷ ks) h = true_and (ltb k n) (below n ks) (lt-ltb k n (h 0 (omega arith))) (all_below n ks (λ i l. h (suc i) (omega arith)))
+all_below n (k ∷ ks) h = and_from (ltb k n) (below n ks) (lt-ltb k n (h 0 (omega arith))) (all_below n ks (λ i l. h (suc i) (omega arith)))
 
 pub below_bad : (n : ℕ) (ks : List ℕ) (i : ℕ) → i < length ks → n ≤ get_or ks i 0 → below n ks ≡ false
 below_bad n ks i h l = by_test (below n ks) (λ e. absurd (omega (arith, below_all n ks e i h))) (λ e. e)

@@ -7,8 +7,8 @@ use native.Mathlib.Omega.{arith}
 use lib.ListN.{length, get_or, take, drop}
 use lib.Dec.{leb, ltb}
 use borrow.Author.Tests.{leb-true, ltb-true, le-leb, lt-ltb}
+use Rattle.std.proofs.lemmas.Bool.{and_parts}
 use Rattle.spec.specs.Set.{rising, select}
-use Rattle.spec.proofs.Tests.{and_true}
 
 -- the members are at or above `low`, strictly increasing, and below `end`
 abbrev pub Rising : ℕ → ℕ → List ℕ → Type 0
@@ -21,8 +21,8 @@ pub rising_facts : (low end : ℕ) (xs : List ℕ) → rising low end xs ≡ tru
 unfolding rising
 rising_facts low end [] e = tt
 rising_facts low end (x ∷ xs) e =
-    let p = and_true (leb low x && ltb x end) (rising (suc x) end xs) e in
-    let q = and_true (leb low x) (ltb x end) p.0 in
+    let p = and_parts (leb low x && ltb x end) (rising (suc x) end xs) e in
+    let q = and_parts (leb low x) (ltb x end) p.0 in
     (leb-true low x q.0, ltb-true x end q.1, rising_facts (suc x) end xs p.1)
 
 pub rising_true : (low end : ℕ) (xs : List ℕ) → Rising low end xs → rising low end xs ≡ true

@@ -9,9 +9,9 @@ use native.Mathlib.Omega.{arith}
 use lib.ListN.{length, get_or, drop}
 use lib.Dec.{leb, ltb, eqb}
 use borrow.Author.Tests.{ltb-true, ltb-false, leb-true, leb-false, le-ltb, lt-ltb, le-leb, lt-leb, ne_eqb}
+use Rattle.std.proofs.lemmas.Bool.{cond-true, cond-false}
 use Rattle.spec.specs.Layout.{groups}
 use Rattle.spec.specs.Reading.{AreBytes, Head, onto, ungroups, padded}
-use Rattle.spec.proofs.Tests.{cond_yes, cond_no}
 
 -- ---- lengths
 
@@ -28,11 +28,11 @@ groups_length (suc f) n = go (ltb n 128) (groups_length f (n / 128))
 pub groups_small : (f n : ℕ) → n < 128 → groups f n ≡ (n + 128) ∷ []
 unfolding groups
 groups_small zero n h = let e : n % 128 ≡ n = omega arith in ap (λ k. (k + 128) ∷ []) e
-groups_small (suc f) n h = cond_yes (ltb n 128) _ _ (lt-ltb n 128 h)
+groups_small (suc f) n h = cond-true (ltb n 128) _ _ (lt-ltb n 128 h)
 
 pub groups_large : (f n : ℕ) → 128 ≤ n → groups (suc f) n ≡ n % 128 ∷ groups f (n / 128)
 unfolding groups
-groups_large f n h = cond_no (ltb n 128) _ _ (le-ltb n 128 h)
+groups_large f n h = cond-false (ltb n 128) _ _ (le-ltb n 128 h)
 
 -- small and large numbers apart
 small_large : {G : Type 0} (n : ℕ) → (n < 128 → G) → (128 ≤ n → G) → G
@@ -50,11 +50,11 @@ head_of n = record { count = n; start = length (groups 4 n) }
 -- one group is read
 read_last : (f b : ℕ) (bs : List ℕ) → 128 ≤ b → ungroups (suc f) (b ∷ bs) ≡ some (record { count = b - 128; start = 1 })
 unfolding ungroups
-read_last f b bs h = cond_yes (leb 128 b) _ _ (le-leb 128 b h)
+read_last f b bs h = cond-true (leb 128 b) _ _ (le-leb 128 b h)
 
 read_more : (f b : ℕ) (bs : List ℕ) → b < 128 → ungroups (suc f) (b ∷ bs) ≡ onto b (ungroups f bs)
 unfolding ungroups
-read_more f b bs h = cond_no (leb 128 b) _ _ (lt-leb 128 b h)
+read_more f b bs h = cond-false (leb 128 b) _ _ (lt-leb 128 b h)
 
 read_small : (f n : ℕ) (rest : List ℕ) → n < 128 → ungroups (suc f) (groups f n ++ rest) ≡ some (record { count = n; start = length (groups f n) })
 read_small f n rest l =

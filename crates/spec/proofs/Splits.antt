@@ -1,7 +1,7 @@
 -- A question of the set is one of a block: rank, contains, lookup, select and next, and where the block's bytes lie.
 use Prim.Native.Nat.{ℕ, zero, suc, ◌+◌, ◌*◌, ◌/◌, ◌%◌, ◌≤◌, ◌<◌}
 use mathlib.Core.Path.{◌≡◌, refl, sym, ap, ap₂, ◌∙◌}
-use mathlib.Core.Bool.{Bool, true, false, ◌||◌}
+use mathlib.Core.Bool.{◌||◌, or-false}
 use mathlib.Core.List.{List, [], ◌∷◌, ◌++◌, append_assoc}
 use mathlib.Core.Option.{Option, none, some}
 use native.Mathlib.Omega.{arith}
@@ -94,11 +94,7 @@ module _ (count : ℕ) (gs : List Block) (w : Well count 0 gs) where
       let R = rows_from b (places_of b gs) in
       ap (contains d) c.rows ∙ contains_append d c.before (R ++ c.after) ∙ ap (λ t. contains d c.before || t) (contains_append d R c.after)
       ∙ rw (contains_past 0 (b * size) c.before c.earlier d (omega arith), contains_before ((b + 1) * size) count c.after c.later d (omega arith), contains_in d (places_of b gs))
-      (or_false (contains (d % size) (places_of b gs)))
-    where
-      or_false : (t : Bool) → t || false ≡ t
-      or_false true = refl
-      or_false false = refl
+      (or-false (contains (d % size) (places_of b gs)))
 
   pub lookup_split : (d : ℕ) → lookup d (rows_of gs) ≡ moved (rows_before (d / size) gs) (lookup (d % size) (places_of (d / size) gs))
   lookup_split d =

@@ -10,10 +10,11 @@ use lib.ListN.{length, get_or, take, drop, length-map}
 use lib.Seq.{take_at, take-take}
 use lib.Dec.{leb, ltb}
 use borrow.Author.Tests.{ltb-true, ltb-false, leb-true, eq-eqb}
+use Rattle.std.proofs.lemmas.Bool.{and_parts, and_from}
 use Rattle.spec.specs.declared.Entry.{Entry}
 use Rattle.spec.specs.Layout.{bytes_of, groups, entry_bytes, Block, all_data, entry_of, all_entries, written}
 use Rattle.spec.specs.Reading.{limit, count_of_blocks, rows_at, AreBytes, part, Head, padded, entry_in, entries_at, entries_ok, size_of_data, data_sizes, is_content, contents_ok, blocks_at, Verdict, holds, entry_count, entry_start, entries_of, verdict}
-use Rattle.spec.proofs.Tests.{by_test, and_true, true_and}
+use Rattle.spec.proofs.Tests.{by_test}
 use Rattle.spec.proofs.Bytes.{length_part, part_join, part_none, part_all, bytes_part, part_number, get_or_part, bytes_back}
 use Rattle.spec.proofs.RowCount.{head_of, Headed, headed}
 use Rattle.spec.proofs.Content.{Block-written, block_written}
@@ -65,10 +66,10 @@ blocks_written count low at to [] file s y o e l k = record { entries' = refl; b
 blocks_written count low at to (x ∷ es) file s y o e l k =
     let n = size_of_data x.rows in
     let end = rows_at count x.number in
-    let o1 = and_true (leb low x.number && ltb x.number (count_of_blocks count) && leb x.rows end) (entries_ok count (suc x.number) es) o in
-    let o2 = and_true (leb low x.number && ltb x.number (count_of_blocks count)) (leb x.rows end) o1.0 in
-    let o3 = and_true (leb low x.number) (ltb x.number (count_of_blocks count)) o2.0 in
-    let k1 = and_true (is_content x.rows end (part at (at + n) file)) (contents_ok count es (at + n) file) k in
+    let o1 = and_parts (leb low x.number && ltb x.number (count_of_blocks count) && leb x.rows end) (entries_ok count (suc x.number) es) o in
+    let o2 = and_parts (leb low x.number && ltb x.number (count_of_blocks count)) (leb x.rows end) o1.0 in
+    let o3 = and_parts (leb low x.number) (ltb x.number (count_of_blocks count)) o2.0 in
+    let k1 = and_parts (is_content x.rows end (part at (at + n) file)) (contents_ok count es (at + n) file) k in
     let b : Block-written x.rows end (part at (at + n) file) =
     block_written x.rows end (part at (at + n) file) (bytes_part at (at + n) file y) (length_part at (at + n) file (omega arith) (omega arith) ∙ omega arith) k1.0 in
     let r : Blocks-written count (suc x.number) (at + n) to es file = blocks_written count (suc x.number) (at + n) to es file s.1 y o1.1 (omega arith) l k1.1 in
@@ -93,7 +94,7 @@ module _ (file : List ℕ) (h : Head) (y : AreBytes file) (p : head_in file ≡ 
       let w = read_within in
       let f : get_or file (h.start - 1) 0 ≡ 128 = ap (λ i. get_or file i 0) (sym (zero-add (h.start - 1))) ∙ sym (get_or_part 0 (length file - 2) file (h.start - 1) (omega arith)) ∙ e in
       by_test (ltb 1 h.start)
-      (λ t. absurd (true≢false (sym (true_and _ _ t (eq-eqb _ _ f)) ∙ u)))
+      (λ t. absurd (true≢false (sym (and_from _ _ t (eq-eqb _ _ f)) ∙ u)))
       (λ t. omega (arith, ltb-false 1 h.start t))
 
   read_start : h.start ≡ length (groups 4 h.count)

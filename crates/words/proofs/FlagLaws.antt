@@ -10,7 +10,7 @@ use lib.ListN.{length, get_or, drop, drop_of_length-le}
 use lib.Seq.{drop-cons}
 use lib.Dec.{leb}
 use borrow.Author.Tests.{leb-true, le-leb, lt-leb}
-use Rattle.spec.proofs.Tests.{and_true}
+use Rattle.std.proofs.lemmas.Bool.{and_parts}
 
 -- such a test
 pub record Climbing (past : ℕ → ℕ) (climbs : ℕ → List ℕ → Bool) : Type 0 where
@@ -59,16 +59,16 @@ module _ {past : ℕ → ℕ} {climbs : ℕ → List ℕ → Bool} (c : Climbing
   module _ (up : (x : ℕ) → x ≤ past x) where
     climbs_from : (low k : ℕ) (xs : List ℕ) → climbs low xs ≡ true → k < length xs → low ≤ get_or xs k 0
     climbs_from low k [] e h = absurd (omega arith)
-    climbs_from low zero (x ∷ xs) e h = leb-true low x (and_true (leb low x) (climbs (past x) xs) (sym (c.more low x xs) ∙ e)).0
+    climbs_from low zero (x ∷ xs) e h = leb-true low x (and_parts (leb low x) (climbs (past x) xs) (sym (c.more low x xs) ∙ e)).0
     climbs_from low (suc k) (x ∷ xs) e h =
-        let p = and_true (leb low x) (climbs (past x) xs) (sym (c.more low x xs) ∙ e) in
+        let p = and_parts (leb low x) (climbs (past x) xs) (sym (c.more low x xs) ∙ e) in
         omega (arith, leb-true low x p.0, up x, climbs_from (past x) k xs p.1 (omega arith))
 
     pub climbs_apart : (low i j : ℕ) (xs : List ℕ) → climbs low xs ≡ true → i ≤ j → j < length xs → get_or xs i 0 ≤ get_or xs j 0
     climbs_apart low i j [] e h l = absurd (omega arith)
     climbs_apart low zero zero (x ∷ xs) e h l = omega arith
     climbs_apart low zero (suc j) (x ∷ xs) e h l =
-        let p = and_true (leb low x) (climbs (past x) xs) (sym (c.more low x xs) ∙ e) in omega (arith, up x, climbs_from (past x) j xs p.1 (omega arith))
+        let p = and_parts (leb low x) (climbs (past x) xs) (sym (c.more low x xs) ∙ e) in omega (arith, up x, climbs_from (past x) j xs p.1 (omega arith))
     climbs_apart low (suc i) zero (x ∷ xs) e h l = absurd (omega arith)
     climbs_apart low (suc i) (suc j) (x ∷ xs) e h l =
-        let p = and_true (leb low x) (climbs (past x) xs) (sym (c.more low x xs) ∙ e) in climbs_apart (past x) i j xs p.1 (omega arith) (omega arith)
+        let p = and_parts (leb low x) (climbs (past x) xs) (sym (c.more low x xs) ∙ e) in climbs_apart (past x) i j xs p.1 (omega arith) (omega arith)

@@ -1,5 +1,5 @@
-use Rattle.std.proofs.Common.{refl, arith}
-use Rattle.mini.proofs.LowestLaws.{zeros_lt}
+use Rattle.std.proofs.Common.{refl, arith, w64}
+use Rattle.std.proofs.lemmas.Nat.Bits.{bit_at-trailing_zeros}
 use Rattle.dense.proofs.PageLaws.{list_first, list_next, list_more, list_short, list_end}
 use Rattle.dense.proofs.page.Goals as goal
 
@@ -22,7 +22,7 @@ loop-j-preserved-then-word-eq0 c =
     list_next c.told-part l c.if-word-eq0.true (omega arith) c.read-word.ensures (omega arith)
 
 pub overflow_add-out-else-word-eq0 : goal.overflow_add-out-else-word-eq0
-overflow_add-out-else-word-eq0 c = omega (arith, zeros_lt 64 c.loop-j.word c.loop-j.invariant.word (omega arith))
+overflow_add-out-else-word-eq0 c = omega (arith, (bit_at-trailing_zeros w64 c.loop-j.word (omega arith) c.loop-j.invariant.word).0)
 
 pub loop-j-preserved : goal.loop-j-preserved
 loop-j-preserved c =
