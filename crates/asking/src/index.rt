@@ -10,6 +10,7 @@ ghost use Rattle.directory.specs.Parts.{part_of, Bracket};
 ghost use Rattle.asking.specs.Members.{Of, Member, Looked};
 
 use spec::{Record, Refusal};
+use words::block::ROWS;
 
 // The file's bytes, and the directory and the record that opening gave. That bytes fit stands here because a proof does not learn it
 // from the field's type.
@@ -70,8 +71,8 @@ impl<'a> Index<'a> {
         if self.record.row_count <= row {
             return false;
         }
-        let part = self.part((row / 65536) as usize);
-        blocks::contains(part, (row % 65536) as u16)
+        let part = self.part((row / ROWS) as usize);
+        blocks::contains(part, (row % ROWS) as u16)
     }
 
     // The number of members below a row.
@@ -81,8 +82,8 @@ impl<'a> Index<'a> {
         if self.record.row_count <= row {
             return self.record.populated;
         }
-        let block = (row / 65536) as usize;
-        let below = blocks::rank(self.part(block), (row % 65536) as u16);
+        let block = (row / ROWS) as usize;
+        let below = blocks::rank(self.part(block), (row % ROWS) as u16);
         self.rows_before(block).wrapping_add(below)
     }
 
@@ -93,8 +94,8 @@ impl<'a> Index<'a> {
         if self.record.row_count <= row {
             return None;
         }
-        let block = (row / 65536) as usize;
-        let below = blocks::lookup(self.part(block), (row % 65536) as u16)?;
+        let block = (row / ROWS) as usize;
+        let below = blocks::lookup(self.part(block), (row % ROWS) as u16)?;
         Some(self.rows_before(block).wrapping_add(below))
     }
 
@@ -105,7 +106,7 @@ impl<'a> Index<'a> {
     {
         let block = self.find_block(rank);
         let left = rank.wrapping_sub(self.rows_before(block));
-        65536 * block as u32 + blocks::select(self.part(block), left)
+        ROWS * block as u32 + blocks::select(self.part(block), left)
     }
 
     // The smallest member at or after a row. Where its block has none, the next has as many members below it as all blocks up to and
@@ -116,10 +117,10 @@ impl<'a> Index<'a> {
         if self.record.row_count <= row {
             return None;
         }
-        let block = row / 65536;
+        let block = row / ROWS;
         let part = self.part(block as usize);
-        if let Some(place) = blocks::next(part, (row % 65536) as u16) {
-            return Some(65536 * block + place);
+        if let Some(place) = blocks::next(part, (row % ROWS) as u16) {
+            return Some(ROWS * block + place);
         }
         let end = self.rows_before(block as usize + 1);
         if self.record.populated <= end {

@@ -6,6 +6,7 @@ ghost use Rattle.words.specs.Part.{NeverFalls, InBlock};
 ghost use Rattle.batches.specs.Batches.{climbing, Hits};
 
 use asking::index::Index;
+use words::block::ROWS;
 
 // Whether questions never fall.
 pub(crate) fn never_fall(questions: &[u32]) -> bool
@@ -28,8 +29,8 @@ pub(crate) fn sorted(index: Index, questions: &[u32], rows: &mut [u32], ranks: &
         if index.record.row_count <= row {
             return n;
         }
-        let block = row / 65536;
-        let to = rows::run_end(questions, i, block as u64 * 65536 + 65536);
+        let block = row / ROWS;
+        let to = rows::run_end(questions, i, block as u64 * ROWS as u64 + ROWS as u64);
         let some = &questions[i..to];
         n += in_block(index, block, some, &mut rows[n..], &mut ranks[n..]);
         i = to;
@@ -52,7 +53,7 @@ fn in_block(
 {
     let part = index.part(block as usize);
     let first = index.rows_before(block as usize);
-    blocks::batch(part, questions, 65536 * block, first, rows, ranks)
+    blocks::batch(part, questions, ROWS * block, first, rows, ranks)
 }
 
 // The hits of questions in any order, one after another.

@@ -4,6 +4,7 @@ ghost use Rattle.spec.specs.Reading.{count_of_blocks};
 ghost use Rattle.batches.specs.Batches.{Listed, ListedIn};
 
 use asking::index::Index;
+use words::block::ROWS;
 
 // Fills rows with the members from a rank on. The block of the rank is looked up; the next block's ranks follow.
 pub(crate) fn fill(index: Index, from: u32, rows: &mut [u32])
@@ -29,7 +30,7 @@ pub(crate) fn fill_in(index: Index, block: usize, from: u32, rows: &mut [u32])
     ensures { ListedIn index.entry.bytes.now index.entry.directory.now index.entry.«record» block from rows.old rows.new }
 {
     let place = from.wrapping_sub(index.rows_before(block));
-    blocks::page(index.part(block), 65536 * block as u32, place, rows);
+    blocks::page(index.part(block), ROWS * block as u32, place, rows);
 }
 
 // How many ranks from k on are below an end, of at most so many.

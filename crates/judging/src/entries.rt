@@ -4,6 +4,7 @@ ghost use Rattle.spec.specs.Reading.{rows_at, entry_in, entry_count, entries_of}
 ghost use Rattle.judging.specs.Phases.{is_entry, totals};
 
 use spec::Entry;
+use words::block::ROWS;
 
 // What the entries call for: so many populated rows, and so many data bytes.
 #[derive(Clone, Copy, Debug, PartialEq, Eq)]
@@ -62,9 +63,9 @@ fn entry_ok(x: Entry, low: u32, row_count: u32) -> bool
 pub(crate) fn rows_at(row_count: u32, number: u16) -> u32
     ensures { result ≡ rows_at row_count number }
 {
-    let from = number as u32 * 65536;
+    let from = number as u32 * ROWS;
     if row_count <= from {
         return 0;
     }
-    (row_count - from).min(65536)
+    (row_count - from).min(ROWS)
 }

@@ -9,6 +9,8 @@ ghost use Rattle.spec.specs.Set.{rising, rank};
 ghost use Rattle.spec.specs.Layout.{size};
 ghost use Rattle.mini.specs.Mini.{mini_in, mini_bytes, MiniAt, places, Gathers};
 
+use words::block::ROWS;
+
 // A word, and the number of rows before it.
 #[derive(Debug, Clone, Copy, PartialEq, Eq)]
 pub struct DenseMiniBlock {
@@ -73,7 +75,7 @@ pub fn gather(rows: &[u32], from: usize, m: u16) -> Gathered
 {
     let mut word: u64 = 0;
     for (i, row) in rows[from..].iter().enumerate() {
-        let place = row % 65536;
+        let place = row % ROWS;
         if place / 64 != m as u32 {
             return Gathered {
                 word,

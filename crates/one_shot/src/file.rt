@@ -11,6 +11,7 @@ ghost use Rattle.one_shot.specs.Spots.{spot_from};
 use crate::spots;
 use crate::spots::Spot;
 use spec::{Record, Refusal};
+use words::block::ROWS;
 
 // The bytes, and the record that judging gave. That bytes fit stands here because a proof does not learn it from the field's type.
 #[derive(Clone, Copy)]
@@ -37,8 +38,8 @@ impl<'a> File<'a> {
         if self.record.row_count <= row {
             return false;
         }
-        let spot = self.of_block((row / 65536) as u16);
-        blocks::contains(self.part(spot), (row % 65536) as u16)
+        let spot = self.of_block((row / ROWS) as u16);
+        blocks::contains(self.part(spot), (row % ROWS) as u16)
     }
 
     pub(crate) fn rank(self, row: u32) -> u32
@@ -47,8 +48,8 @@ impl<'a> File<'a> {
         if self.record.row_count <= row {
             return self.record.populated;
         }
-        let spot = self.of_block((row / 65536) as u16);
-        let below = blocks::rank(self.part(spot), (row % 65536) as u16);
+        let spot = self.of_block((row / ROWS) as u16);
+        let below = blocks::rank(self.part(spot), (row % ROWS) as u16);
         (spot.rows + below as usize) as u32
     }
 
@@ -58,8 +59,8 @@ impl<'a> File<'a> {
         if self.record.row_count <= row {
             return None;
         }
-        let spot = self.of_block((row / 65536) as u16);
-        let below = blocks::lookup(self.part(spot), (row % 65536) as u16)?;
+        let spot = self.of_block((row / ROWS) as u16);
+        let below = blocks::lookup(self.part(spot), (row % ROWS) as u16)?;
         Some((spot.rows + below as usize) as u32)
     }
 
@@ -70,7 +71,7 @@ impl<'a> File<'a> {
     {
         let spot = spots::of_rank(self.bytes, self.record.data_start, k);
         let left = (k as usize - spot.rows) as u32;
-        65536 * spot.number as u32 + blocks::select(self.part(spot), left)
+        ROWS * spot.number as u32 + blocks::select(self.part(spot), left)
     }
 
     // Where the row's block has none, the next has as many members below it as all blocks up to and with this one have.
@@ -80,10 +81,10 @@ impl<'a> File<'a> {
         if self.record.row_count <= row {
             return None;
         }
-        let number = (row / 65536) as u16;
+        let number = (row / ROWS) as u16;
         let spot = self.of_block(number);
-        if let Some(place) = blocks::next(self.part(spot), (row % 65536) as u16) {
-            return Some(65536 * number as u32 + place);
+        if let Some(place) = blocks::next(self.part(spot), (row % ROWS) as u16) {
+            return Some(ROWS * number as u32 + place);
         }
         let later = self.of_block(number + 1);
         if self.record.populated as usize <= later.rows {

@@ -9,6 +9,7 @@ ghost use Rattle.words.specs.Part.{NeverFalls};
 ghost use Rattle.rows.specs.Runs.{ascends, Below, Run, Shaped};
 
 use spec::{Done, Refusal};
+use words::block::ROWS;
 
 // The refusal of the first faulty row.
 pub fn fault(row_count: u32, rows: &[u32]) -> Done
@@ -129,5 +130,5 @@ pub fn block_run(rows: &[u32], from: usize) -> usize
 fn block_end(row: u32) -> u64
     ensures { result ≡ row / size * size + size }
 {
-    (row / 65536) as u64 * 65536 + 65536
+    (row / ROWS) as u64 * ROWS as u64 + ROWS as u64
 }

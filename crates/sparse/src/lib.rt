@@ -8,6 +8,8 @@ ghost use Rattle.spec.specs.Layout.{size, sparse_data};
 ghost use Rattle.spec.specs.Reading.{is_content};
 ghost use Rattle.words.specs.Part.{Of, placed, Inside, NeverFalls, InBlock, Batched, Paged};
 
+use words::block::ROWS;
+
 // Whether a place is in the block.
 pub fn contains(part: &[u8], place: u16) -> bool
     requires { length part.now ≡ 10240 → ⊥ }
@@ -84,7 +86,7 @@ pub fn write(rows: &[u32], out: &mut [u8])
     ensures { out.new ≡ sparse_data (map (λ r. r % size) rows.now) }
 {
     for (i, row) in rows.iter().enumerate() {
-        words::le::put_u16(out, 2 * i, (*row % 65536) as u16);
+        words::le::put_u16(out, 2 * i, (*row % ROWS) as u16);
     }
 }
 
@@ -110,7 +112,7 @@ pub fn batch(
         match search::from_cursor(part, cursor, (*row - base) as u16) {
             Ok(at) => {
                 rows[n] = *row;
-                ranks[n] = ((first as u64 + at as u64) % 4294967296) as u32;
+                ranks[n] = first.wrapping_add(to_u32(at));
                 n += 1;
                 cursor = at;
             }

@@ -10,12 +10,13 @@ ghost use Rattle.spec.specs.Answers.{WriteOwes, counted};
 ghost use Rattle.rows.specs.Runs.{ascends, places};
 
 use spec::{Count, Entry, Refusal};
+use words::block::{DENSE_FROM, LIMIT, ROWS};
 
 // The file of the rows, at the front of out, which otherwise stays; its length.
 pub fn write(row_count: u32, rows: &[u32], out: &mut [u8]) -> Count
     ensures { WriteOwes row_count rows.now out.old (counted result, out.new) }
 {
-    if words::block::LIMIT < row_count {
+    if LIMIT < row_count {
         return Err(Refusal::Rows);
     }
     rows::fault(row_count, rows)?;
@@ -68,7 +69,7 @@ fn put_block(out: &mut [u8], at: usize, to: usize, rows: &[u32])
     let n = rows.len();
     let end = at + words::block::data_size(n);
     put_data(&mut out[at..end], rows);
-    let number = (rows[0] / 65536) as u16;
+    let number = (rows[0] / ROWS) as u16;
     let entry = words::entry::to_bytes(Entry {
         number,
         rows: n as u32,
@@ -83,7 +84,7 @@ fn put_data(out: &mut [u8], rows: &[u32])
     requires rows_rise { rising 0 size (places rows.now) ≡ true }
     ensures { out.new ≡ data_of (places rows.now) }
 {
-    if rows.len() < 5120 {
+    if rows.len() < DENSE_FROM {
         sparse::write(rows, out);
     } else {
         dense::write(rows, out);
