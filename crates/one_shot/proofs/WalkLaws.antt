@@ -1,16 +1,19 @@
 -- The walk over a file's entries: where those left lead, from the rows and the bytes so far, is where all lead.
 use Prim.Native.Nat.{ℕ, zero, suc, ◌+◌, ◌-◌, ◌*◌, ◌^◌, ◌≤◌, ◌<◌}
-use mathlib.Core.Path.{◌≡◌, refl, sym, ap, ◌∙◌}
+use mathlib.Core.Path.{◌≡◌, refl, sym, ap, subst, ◌∙◌}
+use mathlib.Core.Bool.{Bool, cond, true, false}
 use mathlib.Core.List.{List, [], ◌∷◌, map}
 use native.Mathlib.Omega.{arith}
-use borrow.Author.Tests.{lt-ltb, le-ltb, eq-eqb, ne_eqb}
+use borrow.Author.Tests.{lt-ltb, le-ltb, eq-eqb, ne_eqb, eqb-true, eqb-false, leb-true, leb-false}
+use lib.Dec.{ltb, leb, eqb}
 use lib.ListN.{length, get_or, drop_of_length-le, length-map}
 use Rattle.spec.specs.declared.Entry.{Entry}
 use Rattle.spec.specs.Reading.{AreBytes, entry_in, entries_at, entry_count, entries_of, size_of_data}
 use Rattle.spec.proofs.Bytes.{part_number_lt}
 use Rattle.spec.proofs.Content.{size_le}
+use Rattle.spec.proofs.Tests.{by_test}
 use Rattle.judging.proofs.TableLaws.{left, left_some}
-use Rattle.one_shot.specs.Spots.{spot_from, holder_from}
+use Rattle.one_shot.specs.Spots.{spot_from, holder_from, Found}
 use Rattle.one_shot.specs.declared.spots.Spot.{Spot}
 
 -- ---- a file has fewer than 65,536 entries
@@ -27,36 +30,34 @@ few_entries table file y h e =
 
 -- ---- from entry to entry
 
--- f leads on from the rows and the bytes so far, which are small: no entry has 2 ^ 32 rows
-pub record Leading (f : ℕ → ℕ → List Entry → Spot) (table : List (List ℕ)) (all : Spot) (rows from i : ℕ) : Type 0 where
-  pub walk : f rows from (left table i) ≡ all
+-- where the entries left lead from the rows and the bytes so far, all lead; both are small: no entry has 2 ^ 32 rows
+pub record Leading (says : ℕ → ℕ → Bool → Type 0) (table : List (List ℕ)) (all : Spot → Type 0) (rows from i : ℕ) : Type 0 where
+  pub walk : (s : Spot) → Found says rows from (left table i) s → all s
   pub few : rows ≤ 4294967296 * i
   pub short : from ≤ 4294967296 + 10240 * i
 
-pub leading_none : (f : ℕ → ℕ → List Entry → Spot) (table : List (List ℕ)) (file : List ℕ) (start : ℕ) → start < 2 ^ 32
-    → map entry_in table ≡ entries_of file → Leading f table (f 0 start (entries_of file)) 0 start 0
-leading_none f table file start s e = record { walk = ap (f 0 start) e; few = omega arith; short = omega arith }
+pub leading_none : (says : ℕ → ℕ → Bool → Type 0) (table : List (List ℕ)) (file : List ℕ) (start : ℕ) → start < 2 ^ 32
+    → map entry_in table ≡ entries_of file → Leading says table (Found says 0 start (entries_of file)) 0 start 0
+leading_none says table file start l e = record { walk = λ s f. subst (λ es. Found says 0 start es s) e f; few = omega arith; short = omega arith }
 
-module _ {f : ℕ → ℕ → List Entry → Spot} {table : List (List ℕ)} {all : Spot} {rows from i : ℕ} (p : Leading f table all rows from i) where
-  pub leads_none : length table ≤ i → f rows from [] ≡ all
-  leads_none h = let none' : left table i ≡ [] = ap (map entry_in) (drop_of_length-le table {i = i} h) in ap (f rows from) (sym none') ∙ p.walk
+module _ {says : ℕ → ℕ → Bool → Type 0} {table : List (List ℕ)} {all : Spot → Type 0} {rows from i : ℕ} (p : Leading says table all rows from i) where
+  pub leads_none : length table ≤ i → all (record { number = 0; rows = rows; from = from; to = from })
+  unfolding Found
+  leads_none h = let none' : left table i ≡ [] = ap (map entry_in) (drop_of_length-le table {i = i} h) in p.walk _ (rw none' refl)
 
   module _ (x : Entry) (n : ℕ) (h : i < length table) (e : x ≡ entry_in (get_or table i [])) (q : n ≡ size_of_data x.rows) where
-    -- this entry decides
-    pub leads_here : (s : Spot) → ((es : List Entry) → f rows from (x ∷ es) ≡ s) → s ≡ all
-    leads_here s g = sym (g _) ∙ ap (f rows from) (sym (left_some table i x h e)) ∙ p.walk
-
-    pub leads_whole : (number : ℕ) → ((es : List Entry) → f rows from (x ∷ es) ≡ record { number = number; rows = rows; from = from; to = from + size_of_data x.rows })
-        → record { number = number; rows = rows; from = from; to = from + n } ≡ all
-    leads_whole number g = ap (λ n. record { number = number; rows = rows; from = from; to = from + n }) q ∙ leads_here _ g
+    -- the test takes this entry
+    pub leads_here : says x.number (rows + x.rows) true → all (record { number = x.number; rows = rows; from = from; to = from + n })
+    unfolding Found
+    leads_here t = p.walk _ (rw (left_some table i x h e) (true, t, rw q refl))
 
     -- it does not
-    pub leads_on : x.rows < 2 ^ 32 → ((es : List Entry) → f rows from (x ∷ es) ≡ f (rows + x.rows) (from + size_of_data x.rows) es)
-        → Leading f table all (rows + x.rows) (from + n) (i + 1)
-    leads_on l g =
+    pub leads_on : x.rows < 2 ^ 32 → says x.number (rows + x.rows) false → Leading says table all (rows + x.rows) (from + n) (i + 1)
+    unfolding Found
+    leads_on l t =
         let z = size_le x.rows in
         record {
-          walk = rw q (sym (g _) ∙ ap (f rows from) (sym (left_some table i x h e)) ∙ p.walk);
+          walk = λ s f. p.walk s (rw (left_some table i x h e) (false, t, rw q at f));
           few = omega (arith, p.few);
           short = omega (arith, p.short);
         }
@@ -86,3 +87,29 @@ module _ (k rows at : ℕ) (x : Entry) (es : List Entry) where
   pub holder_later : rows + x.rows ≤ k → holder_from k rows at (x ∷ es) ≡ holder_from k (rows + x.rows) (at + size_of_data x.rows) es
   unfolding holder_from
   holder_later l = rw (le-ltb k (rows + x.rows) l)
+
+-- ---- where a test leads
+
+module _ (says : ℕ → ℕ → Bool → Type 0) where
+  pub found_holder : (k : ℕ) → ((number after : ℕ) (t : Bool) → says number after t → t ≡ ltb k after) → (rows at : ℕ) (es : List Entry) (s : Spot)
+      → Found says rows at es s → s ≡ holder_from k rows at es
+  unfolding holder_from Found
+  found_holder k is rows at [] s f = f
+  found_holder k is rows at (e ∷ es) s (true, t, f) = rw (sym (is _ _ _ t)) f
+  found_holder k is rows at (e ∷ es) s (false, t, f) = rw (sym (is _ _ _ t)) (found_holder k is (rows + e.rows) (at + size_of_data e.rows) es s f)
+
+  pub found_spot : (b : ℕ) → ((number after : ℕ) (t : Bool) → says number after t → t ≡ leb b number) → (rows at : ℕ) (es : List Entry) (s : Spot)
+      → Found says rows at es s → cond (eqb s.number b) s (record { number = b; rows = s.rows; from = s.from; to = s.from }) ≡ spot_from b rows at es
+  unfolding spot_from Found
+  found_spot b is rows at [] s f =
+      by_test (eqb 0 b)
+      (λ q. rw (f, q) (ap (λ n. record { number = n; rows = rows; from = at; to = at }) (eqb-true 0 b q)))
+      (λ q. rw (f, q) refl)
+  found_spot b is rows at (e ∷ es) s (true, t, f) =
+      let le = leb-true b e.number (sym (is _ _ _ t)) in
+      by_test (eqb e.number b)
+      (λ q. rw (f, q) (ap (λ n. record { number = n; rows = rows; from = at; to = at + size_of_data e.rows }) (eqb-true e.number b q)))
+      (λ q. rw (f, q, lt-ltb b e.number (lib.Arith.lt_of_le-ne le (λ z. eqb-false e.number b q (sym z)))) refl)
+  found_spot b is rows at (e ∷ es) s (false, t, f) =
+      let lt = leb-false b e.number (sym (is _ _ _ t)) in
+      rw (spot_later b rows at e es lt) (found_spot b is (rows + e.rows) (at + size_of_data e.rows) es s f)

@@ -1,7 +1,7 @@
 // A block's spot in a file that is accepted: the rows before it, and its part of the file. The entries lead to it, one by one.
 ghost use Rattle.std.specs.Prelude.{◌≡◌, ◌+◌, ◌*◌, ◌≤◌, length};
 ghost use Rattle.spec.specs.Reading.{entry_count, entries_of};
-ghost use Rattle.one_shot.specs.Spots.{spot_from, holder_from};
+ghost use Rattle.one_shot.specs.Spots.{spot_from, holder_from, Found};
 
 #[derive(Clone, Copy, Debug, PartialEq, Eq)]
 pub(crate) struct Spot {
@@ -16,35 +16,14 @@ pub(crate) fn of_block(bytes: &[u8], start: u32, number: u16) -> Spot
     requires { 4 * entry_count bytes.now + 2 ≤ length bytes.now }
     ensures { result ≡ spot_from number 0 start (entries_of bytes.now) }
 {
-    let mut rows = 0;
-    let mut from = start as usize;
-    for four in judging::entries::table(bytes) {
-        let x = words::entry::from_bytes(*four);
-        let to = from + words::block::data_size(x.rows as usize);
-        if x.number == number {
-            return Spot {
-                number,
-                rows,
-                from,
-                to,
-            };
-        }
-        if number < x.number {
-            return Spot {
-                number,
-                rows,
-                from,
-                to: from,
-            };
-        }
-        rows += x.rows as usize;
-        from = to;
+    let spot = find(bytes, start, |at, _| number <= at);
+    if spot.number == number {
+        return spot;
     }
     Spot {
         number,
-        rows,
-        from,
-        to: from,
+        to: spot.from,
+        ..spot
     }
 }
 
@@ -53,13 +32,22 @@ pub(crate) fn of_rank(bytes: &[u8], start: u32, k: u32) -> Spot
     requires { 4 * entry_count bytes.now + 2 ≤ length bytes.now }
     ensures { result ≡ holder_from k 0 start (entries_of bytes.now) }
 {
+    find(bytes, start, |_, rows| (k as usize) < rows)
+}
+
+// The spot of the first entry that a test takes, by its number and the rows up to and with it; number 0, behind all, if it takes none.
+fn find<F: Fn(u16, usize) -> bool>(bytes: &[u8], start: u32, test: F) -> Spot
+    requires fits { 4 * entry_count bytes.now + 2 ≤ length bytes.now }
+    requires callable { F.IsAlwaysCallable test }
+    ensures { Found (F.post test) 0 start (entries_of bytes.now) result }
+{
     let mut rows = 0;
     let mut from = start as usize;
     for four in judging::entries::table(bytes) {
         let x = words::entry::from_bytes(*four);
         let to = from + words::block::data_size(x.rows as usize);
         let after = rows + x.rows as usize;
-        if (k as usize) < after {
+        if test(x.number, after) {
             return Spot {
                 number: x.number,
                 rows,
