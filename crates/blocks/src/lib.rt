@@ -1,5 +1,6 @@
 // A block's questions, of its part of the file: dense if that has 10,240 bytes, else sparse, since 5,119 places take 10,238. Of any
-// bytes they answer something safe, and of a block's data what its places say.
+// bytes they answer something safe, and of a block's data what its places say. A function for each question: one that took the
+// question as a parameter would need a promise over all questions.
 #![tactic(auto)]
 
 ghost use Rattle.std.specs.Prelude.{◌≡◌, ◌+◌, ◌^◌, ◌≤◌, ◌<◌, length};
@@ -37,7 +38,7 @@ pub fn lookup(part: &[u8], place: u16) -> Option<u32>
     }
 }
 
-// The place with k of the block's places below it; 0 where there is none.
+// The place with k of the block's places below it; 0 where there is none, as `select` of a set says.
 pub fn select(part: &[u8], k: u32) -> u32
     ensures inside { result < size }
     ensures exact { Of part.now (λ ps. result ≡ select k ps) }

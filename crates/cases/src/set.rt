@@ -13,7 +13,7 @@ pub fn contains(rows: &[u32], d: u32) -> bool
     rows.contains(&d)
 }
 
-// The number of rows below d. A set of rows has few enough that it fits.
+// The number of rows below d. A set of rows has few enough that it fits: asked for, since the rows are a plain slice.
 pub fn rank(rows: &[u32], d: u32) -> u32
     requires { length rows.now < 2 ^ 32 }
     ensures { result ≡ rank d rows.now }

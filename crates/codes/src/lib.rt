@@ -7,7 +7,7 @@ ghost use Rattle.spec.specs.Answers.{Said, refused, number, answered, numbered, 
 
 use spec::Refusal;
 
-// The C calls' number for "none"; a refusal's is this plus its number.
+// The C calls' number for "none"; a refusal's is this plus its number. One number, since C takes it.
 pub const NONE: u64 = 4294967296;
 
 // A refusal's number.

@@ -1,8 +1,7 @@
 // The directory that opening gave, with its record and bytes: 10, the part of a block, and the block of a rank.
 #![tactic(auto)]
 
-ghost use Rattle.std.specs.Prelude.{◌≡◌, ◌+◌, ◌*◌, ◌≤◌, ◌<◌, length, leb};
-ghost use Rattle.spec.specs.Set.{bit};
+ghost use Rattle.std.specs.Prelude.{◌≡◌, ◌+◌, ◌*◌, ◌<◌, length};
 ghost use Rattle.spec.specs.Answers.{broken};
 ghost use Rattle.directory.specs.Parts.{part_of, Bracket};
 
@@ -25,7 +24,8 @@ pub fn broken(bytes: &[u8], directory: &[u32], record: Record) -> bool
     bytes.len() < record.data_start as usize + directory[closing + 1] as usize + 2
 }
 
-// The data of a block by the directory's offsets; empty where these are no part of the file.
+// The data of a block by the directory's offsets; empty where these are no part of the file, since every question of an empty part has
+// an answer. The directory stays one list of pairs, as it is lent.
 pub fn part<'a>(bytes: &'a [u8], directory: &[u32], data_start: u32, block: usize) -> &'a [u8]
     requires { 2 * block + 3 < length directory.now }
     ensures { result.now ≡ part_of bytes.now directory.now data_start block }

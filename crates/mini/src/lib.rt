@@ -19,7 +19,7 @@ pub struct DenseMiniBlock {
 }
 
 impl DenseMiniBlock {
-    // The mini-block in ten bytes.
+    // The mini-block in ten bytes. Named after the Rust, and no `From`: bytes go by value, with a width in their type.
     pub fn from_bytes(data: [u8; 10]) -> Self
         ensures { result ≡ mini_in «data» }
     {
@@ -40,7 +40,7 @@ impl DenseMiniBlock {
     }
 }
 
-// Mini-block m of a block's part.
+// Mini-block m of a block's part. A number below 1,024, and no type of it: it comes from a loop or a division that bounds it.
 pub fn mini_block(part: &[u8], m: u16) -> DenseMiniBlock
     requires { (length part.now ≡ 10240) × (m < 1024) }
     ensures { MiniAt part.now m result }

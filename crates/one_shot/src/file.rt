@@ -1,4 +1,5 @@
-// A file that is accepted, and the questions to it: the row's block answers, and the rows before it are added.
+// A file that is accepted, and the questions to it: the row's block answers, and the rows before it are added. What an opened index
+// adds may wrap, and what is added here may not, so the two share blocks and no steps of their own.
 ghost use Rattle.std.specs.Prelude.{◌≡◌, ◌≤◌, ◌<◌, length, IfOk, IfErr};
 ghost use Rattle.spec.specs.Set.{contains, rank, lookup, select, next};
 ghost use Rattle.spec.specs.Reading.{AreBytes, part, entries_of, verdict};

@@ -3,6 +3,7 @@ ghost use Rattle.std.specs.Prelude.{◌≡◌, ◌+◌, ◌*◌, ◌≤◌, leng
 ghost use Rattle.spec.specs.Reading.{entry_count, entries_of};
 ghost use Rattle.one_shot.specs.Spots.{spot_from, holder_from, Found};
 
+// The part is two indices: that they lie in the file is known of accepted files alone, and the walk takes any.
 #[derive(Clone, Copy, Debug, PartialEq, Eq)]
 pub(crate) struct Spot {
     pub number: u16,

@@ -101,6 +101,7 @@ pub struct Shape {
     pub entries: usize,
 }
 
+// That rows ascend is asked for, and no type says it: a run is a part of them, and each would be made a value of such a type anew.
 pub fn measure(rows: &[u32]) -> Shape
     requires { ascends 0 rows.now ≡ true }
     ensures { Shaped rows.now result.«data» result.entries }

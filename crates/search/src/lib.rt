@@ -2,8 +2,7 @@
 // where it would go: of places that rise, exactly, and of any bytes with an index of the places that these say, or the end.
 #![tactic(auto)]
 
-ghost use Rattle.std.specs.Prelude.{◌≡◌, cond, ◌+◌, ◌/◌, ◌^◌, ◌≤◌, ◌<◌, leb, eqb, length, get_or, Ok, Err};
-ghost use Rattle.spec.specs.Set.{bit};
+ghost use Rattle.std.specs.Prelude.{◌≡◌, cond, ◌+◌, ◌/◌, ◌^◌, ◌≤◌, ◌<◌, eqb, length, get_or, Ok, Err};
 ghost use Rattle.search.specs.Search.{places_said, index_of, shifted, Finds, Probed};
 
 // Every place, by halves: places before base are below the target, those from base + size on are above it.
@@ -73,7 +72,8 @@ fn narrowed_search(part: &[u8], cursor: usize, gap: usize, target: u16) -> Resul
     shift(left, exponential_search(&part[2 * left..2 * right], target))
 }
 
-// Every place, quickest for a target near the start: the part that the probes leave, by halves.
+// Every place, quickest for a target near the start: the part that the probes leave, by halves. It and the narrowed search cut a part
+// and shift the answer; where they cut is all there is to either.
 fn exponential_search(part: &[u8], target: u16) -> Result<usize, usize>
     ensures { Finds part.now target 0 result }
 {

@@ -1,5 +1,6 @@
 // A sparse block: its places as 16-bit numbers, ascending. Its questions take its part of the file, which is not 10,240 bytes long.
-// Of any such bytes they answer something safe, and of a block's data what its places say.
+// Of any such bytes they answer something safe, and of a block's data what its places say. Plain functions of a part, as dense's are,
+// and no trait or type for both: no step of the two is the same.
 #![tactic(auto)]
 
 ghost use Rattle.std.specs.Prelude.{◌≡◌, map, ◌+◌, ◌*◌, ◌%◌, ◌^◌, ◌≤◌, ◌<◌, length};
@@ -38,7 +39,7 @@ pub fn lookup(part: &[u8], place: u16) -> Option<u32>
     }
 }
 
-// The place with k of the block's places below it; 0 where there is none.
+// The place with k of the block's places below it; 0 where there is none, as `select` of a set says.
 pub fn select(part: &[u8], k: u32) -> u32
     requires { length part.now ≡ 10240 → ⊥ }
     ensures inside { result < size }
@@ -143,7 +144,7 @@ pub fn page(part: &[u8], base: u32, from: u32, out: &mut [u32])
     }
 }
 
-// A block has no more places than fit; of other bytes the lowest 32 bits.
+// A block has no more places than fit; of other bytes the lowest 32 bits, by a remainder, since `as` may lose none.
 fn to_u32(i: usize) -> u32
     ensures { result ≡ i % 2 ^ 32 }
 {

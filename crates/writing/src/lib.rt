@@ -4,7 +4,7 @@
 ghost use Rattle.std.specs.Prelude.{◌≡◌, true, ◌+◌, ◌*◌, ◌/◌, ◌≤◌, ◌<◌, length, get_or};
 ghost use Rattle.std.proofs.lemmas.List.Edits.{sets};
 ghost use Rattle.spec.specs.Set.{rising};
-ghost use Rattle.spec.specs.Layout.{size, data_of, entry_bytes, entry_of, blocks, all_data, all_entries};
+ghost use Rattle.spec.specs.Layout.{size, data_of, entry_of, blocks, all_data, all_entries};
 ghost use Rattle.spec.specs.Reading.{Permitted, size_of_data};
 ghost use Rattle.spec.specs.Answers.{WriteOwes, counted};
 ghost use Rattle.rows.specs.Runs.{ascends, places};
@@ -77,7 +77,7 @@ fn put_block(out: &mut [u8], at: usize, to: usize, rows: &[u32])
     out[to..to + 4].copy_from_slice(&entry);
 }
 
-// The data of the rows of one block, which fill out.
+// The data of the rows of one block, which fill out: sparse or dense by their number, where the parts' readers go by length.
 #[tactic(auto, using(crate::proofs::BlockLaws::data_few, crate::proofs::BlockLaws::data_many))]
 fn put_data(out: &mut [u8], rows: &[u32])
     requires out_long { length out.old ≡ size_of_data (length rows.now) }
