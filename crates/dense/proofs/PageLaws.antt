@@ -1,6 +1,6 @@
 -- The turns of a page of a block: what is filled, with the places left of a word and those of the mini-blocks behind it, are the block's
 -- rows from an index on.
-use Rattle.std.proofs.Common.{◌≡◌, ℕ, ◌+◌, ◌-◌, ◌*◌, ◌%◌, ◌^◌, ◌<◌, ◌≤◌, List, [], ◌∷◌, ◌++◌, map, length, take, drop, set, sym, refl, ap, ◌∙◌, ap₂, ⊎_elim, lt_of_le_of_lt, eq-zero-or-pos, zero-add, arith, length-append, length-drop, length-set, length-take, take_all}
+use Rattle.std.proofs.Common.{◌≡◌, add-zero, ℕ, zero, suc, ◌+◌, ◌-◌, ◌*◌, ◌%◌, ◌^◌, ◌<◌, ◌≤◌, List, [], ◌∷◌, ◌++◌, map, length, take, drop, set, sym, refl, ap, ◌∙◌, ap₂, ⊎_elim, lt_of_le_of_lt, eq-zero-or-pos, zero-add, arith, length-append, length-drop, length-set, length-take, take_all}
 use lib.ListN.{length-map}
 use lib.Seq.{drop-append-le, drop-append-add}
 use lib.Bits.{bit_and, and_le_l}
@@ -18,7 +18,8 @@ use Rattle.words.proofs.FrontLaws.{front_more, front_end}
 use Rattle.mini.specs.declared.DenseMiniBlock.{DenseMiniBlock}
 use Rattle.mini.specs.Mini.{MiniAt}
 use Rattle.mini.proofs.LowestLaws.{bits_zero, lowest_first}
-use Rattle.dense.specs.Mini.{LastMini}
+use Rattle.std.specs.Prelude.{Some, None}
+use Rattle.dense.specs.Mini.{LastMini, Empty, FirstFull}
 use Rattle.dense.proofs.DenseLaws.{rises, stored_word, stored_count}
 
 -- ---- the places of a block, by mini-blocks
@@ -185,3 +186,31 @@ module _ {bs : List ℕ} {base from : ℕ} {out₀ out : List ℕ} {m w j : ℕ}
             front_end out rows j (rows_from base (left m w ps)) (omega (arith, l.long)) (l.filled ps d (omega arith))
             ∙ ap (λ n. take n rows) l.long) (eq-zero-or-pos (length out₀));
       }
+
+-- ---- mini-blocks without rows
+
+module _ {bs : List ℕ} {base from : ℕ} {out₀ out : List ℕ} {m w j : ℕ} (long : length bs ≡ 10240) (l : Listing bs base from out₀ out m w j)
+    (none : w ≡ 0) where
+  -- d of them
+  list_empty : (d : ℕ) → m + d < 1024 → Empty bs (m + 1) (m + d + 1) → Listing bs base from out₀ out (m + d) 0 j
+  list_empty zero h e = rw (add-zero m) (rw none at l)
+  list_empty (suc d) h e =
+      let next : m + d + 1 ≡ m + suc d = omega arith in
+      rw (← next)
+      (list_next long (list_empty d (omega arith) (λ i f t. e i f (omega arith))) refl (omega arith) (sym (e (m + d + 1) (omega arith) (omega arith)))
+      (omega arith))
+
+  -- up to one that has rows
+  pub list_full : {n v : ℕ} → FirstFull bs (m + 1) (Some (n, v)) → Listing bs base from out₀ out n v j
+  list_full {n} {v} h =
+      let d = n - 1 - m in
+      let next : m + d + 1 ≡ n = omega (arith, h.0) in
+      rw (← next)
+      (list_next long (list_empty d (omega (arith, h.0, h.1)) (λ i f t. h.2 i f (omega arith))) refl (omega (arith, h.0, h.1))
+      (rw next h.3) h.5)
+
+  -- and to the last one
+  pub list_none : FirstFull bs (m + 1) None → j < length out₀ → Paged bs base from out₀ out
+  list_none h k =
+      let d = 1023 - m in
+      list_short long (list_empty d (omega (arith, l.within)) (λ i f t. h i f (omega (arith, l.within)))) refl (omega (arith, l.within)) k

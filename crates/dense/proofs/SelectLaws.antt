@@ -1,5 +1,8 @@
--- The mini-block of the place with k places below it: it is the last whose running count is at or below k, and halving finds it.
-use Rattle.std.proofs.Common.{◌≡◌, ℕ, ◌+◌, ◌-◌, ◌*◌, ◌/◌, ◌%◌, ◌^◌, ◌<◌, ◌≤◌, ltb, List, length, sym, ap, ◌∙◌, ap₂, arith, ltb-false, ltb-true}
+-- The mini-block of the place with k places below it: it is the last whose running count is at or below k.
+use Rattle.std.proofs.Common.{◌≡◌, ℕ, zero, suc, true, false, leb, [], get_or, leb-true, leb-false, ◌+◌, ◌-◌, ◌*◌, ◌/◌, ◌%◌, ◌^◌, ◌<◌, ◌≤◌, ltb, List, length, sym, ap, ◌∙◌, ap₂, arith, ltb-false, ltb-true}
+use Rattle.std.specs.Simd.{first_chunks}
+use Rattle.std.specs.List.Sorted.{IsNonDecreasingBy, IsPartitionPoint}
+use Rattle.std.proofs.lemmas.List.Sorted.{IsNonDecreasingBy-from_default}
 use lib.Count.{ones}
 use Rattle.spec.specs.Set.{rank, select}
 use Rattle.spec.specs.Layout.{size, word}
@@ -10,7 +13,8 @@ use Rattle.spec.proofs.Rising.{rising_between}
 use Rattle.spec.proofs.Words.{bits_rising}
 use Rattle.words.specs.Part.{Holds, Of}
 use Rattle.mini.proofs.BitLaws.{length_bits}
-use Rattle.mini.specs.Mini.{MiniAt}
+use Rattle.mini.proofs.MiniLaws.{mini_chunk, mini_at}
+use Rattle.mini.specs.Mini.{MiniAt, mini_in}
 use Rattle.dense.specs.Mini.{LastMini}
 use Rattle.mini.specs.declared.DenseMiniBlock.{DenseMiniBlock}
 use Rattle.dense.proofs.PlaceLaws.{rank_ones, select_place}
@@ -24,58 +28,63 @@ count_read m bs = number_in (part (10 * m + 8) (10 * m + 8 + 2) bs)
 count_is_read : (m : ℕ) (bs : List ℕ) → count_read m bs ≡ count_at m bs
 count_is_read m bs = let e : 10 * m + 8 + 2 ≡ 10 * m + 10 = omega arith in rw e
 
--- ---- the search: it is one of `left` mini-blocks from `base` on
+-- ---- the search: running counts, as chunks of ten bytes have them, never fall
 
-pub record Among (bs : List ℕ) (k base left : ℕ) : Type 0 where
-  pub some : 1 ≤ left
-  pub within : base + left ≤ 1024
-  pub exact : Of bs (λ ps. (rank (64 * base) ps ≤ k) × (k < length ps → k < rank (64 * (base + left)) ps))
+-- a chunk's running count
+abbrev pub count_of : List ℕ → ℕ
+count_of ten = count_read 0 ten
 
-pub among_all : (bs : List ℕ) (k : ℕ) → length bs ≡ 10240 → Among bs k 0 1024
-among_all bs k long =
-    record {
-      some = omega arith;
-      within = omega arith;
-      exact = λ ps h.
-          let r = rises bs ps long h in
-          (omega (arith, rank_low 0 size ps r 0 (omega arith)), λ l. omega (arith, rank_all 0 size ps r 65536 (omega arith)));
-    }
+-- those at or below k are the first n
+abbrev pub Below : List (List ℕ) → ℕ → ℕ → Type 0
+Below tens k n = IsPartitionPoint (λ ten. leb (count_of ten) k ≡ true) (λ ten. leb (count_of ten) k ≡ false) tens n
 
-module _ {bs : List ℕ} {k base left : ℕ} (long : length bs ≡ 10240) (a : Among bs k base left) where
-  -- the running count n in the middle is at or below k, or it is above
-  pub among_upper : {n : ℕ} → 1 < left → n ≡ count_read (base + left / 2) bs → n ≤ k → Among bs k (base + left / 2) (left - left / 2)
-  among_upper m e c =
-      let same : base + left / 2 + (left - left / 2) ≡ base + left = omega arith in
-      record {
-        some = omega arith;
-        within = omega (arith, a.within);
-        exact = λ ps h. (
-          omega (arith, count_is_read (base + left / 2) bs, stored_count bs ps long h (base + left / 2) (omega (arith, a.within))),
-          λ l. rw same ((a.exact ps h).1 l),
-        );
-      }
+module _ {bs : List ℕ} {tens : List (List ℕ)} (long : length bs ≡ 10240) (cut : tens ≡ first_chunks 10 (length bs / 10) bs)
+    (many : length tens ≡ length bs / 10) where
+  module _ {ps : List ℕ} (h : Holds bs ps) where
+    chunk_count : (m : ℕ) → m < 1024 → count_of (get_or tens m []) ≡ rank (64 * m) ps
+    chunk_count m l =
+        let ten = get_or tens m [] in
+        let is = ap (λ l. get_or l m []) cut ∙ mini_chunk bs m long l in
+        count_is_read 0 ten ∙ (mini_at bs m (mini_in ten) (ap mini_in is)).count ∙ stored_count bs ps long h m l
 
-  pub among_lower : {n : ℕ} → 1 < left → n ≡ count_read (base + left / 2) bs → k < n → Among bs k base (left - left / 2)
-  among_lower m e c =
-      record {
-        some = omega arith;
-        within = omega (arith, a.within);
-        exact = λ ps h. (
-          (a.exact ps h).0,
-          λ l. omega (
-            arith,
-            count_is_read (base + left / 2) bs,
-            stored_count bs ps long h (base + left / 2) (omega (arith, a.within)),
-            rank_mono (64 * (base + left / 2)) (64 * (base + (left - left / 2))) ps (omega arith),
-          ),
-        );
-      }
+    pub counts_rise : IsNonDecreasingBy count_of tens
+    counts_rise =
+        IsNonDecreasingBy-from_default count_of tens []
+        (λ i j u l.
+        omega (arith, many, chunk_count i (omega (arith, many)), chunk_count j (omega (arith, many)), rank_mono (64 * i) (64 * j) ps (omega arith)))
 
-  -- one is left
-  pub among_one : left ≤ 1 → LastMini bs k base
-  among_one m =
-      let one : base + left ≡ base + 1 = omega (arith, a.some) in
-      (omega (arith, a.within, a.some), λ ps h. ((a.exact ps h).0, λ l. rw (ap (λ n. rank (64 * n) ps) (sym one)) ((a.exact ps h).1 l)))
+    -- the first is: no place is before it
+    some_below : (k n : ℕ) → Below tens k n → 0 < n
+    some_below k zero b =
+        absurd (omega (
+          arith,
+          leb-false (count_of (get_or tens 0 [])) k (b.1 0 [] (omega arith) (omega (arith, many))),
+          chunk_count 0 (omega arith),
+          rank_low 0 size ps (rises bs ps long h) 0 (omega arith),
+        ))
+    some_below k (suc n) b = omega arith
+
+    last_below : (k n : ℕ) → 0 < n → n ≤ 1024 → Below tens k n → rank (64 * (n - 1)) ps ≤ k
+    last_below k n l u b =
+        omega (arith, leb-true (count_of (get_or tens (n - 1) [])) k (b.0 (n - 1) [] (omega arith) (omega arith)), chunk_count (n - 1) (omega arith))
+
+    first_above : (k n : ℕ) → n ≤ 1024 → Below tens k n → k < length ps → k < rank (64 * n) ps
+    first_above k n u b l =
+        by_test (ltb n 1024)
+        (λ e.
+        let i = ltb-true n 1024 e in
+        omega (arith, leb-false (count_of (get_or tens n [])) k (b.1 n [] (omega arith) (omega (arith, many))), chunk_count n i))
+        (λ e. omega (arith, ltb-false n 1024 e, rank_all 0 size ps (rises bs ps long h) (64 * n) (omega (arith, ltb-false n 1024 e))))
+
+  -- the last of them
+  pub last_mini : (k n : ℕ) → n ≤ 1024 → Of bs (λ ps. Below tens k n) → LastMini bs k (n - 1)
+  last_mini k n u b = (
+    omega arith,
+    λ ps h.
+        let some = some_below h k n (b ps h) in
+        let same : n - 1 + 1 ≡ n = omega arith in
+        (last_below h k n some u (b ps h), rw same (first_above h k n u (b ps h))),
+  )
 
 -- ---- what it stores leads to the place
 

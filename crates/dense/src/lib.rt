@@ -7,7 +7,7 @@ ghost use Rattle.spec.specs.Set.{rising, contains, rank, lookup, select, next};
 ghost use Rattle.spec.specs.Layout.{size, dense_data};
 ghost use Rattle.spec.specs.Reading.{is_content};
 ghost use Rattle.words.specs.Part.{Of, placed, Inside, NeverFalls, InBlock, Batched, Paged};
-ghost use Rattle.dense.specs.Mini.{LastMini};
+ghost use Rattle.dense.specs.Mini.{LastMini, FirstFull};
 
 use mini::bits;
 
@@ -49,22 +49,14 @@ pub fn lookup(part: &Data, place: u16) -> Option<u32>
     None
 }
 
-// The last mini-block whose running count is at or below k: empty ones before it share that count.
+// The last mini-block whose running count is at or below k: empty ones before it share that count. Of a block's data the first
+// is always one, with nothing before it; of other bytes the first stands for none.
 fn find_mini(part: &Data, k: u32) -> u16
     ensures { LastMini part.now k result }
 {
-    let mut base: u16 = 0;
-    let mut left: u16 = 1024;
-    while 1 < left {
-        let half = left / 2;
-        let mid = base + half;
-        let before = words::le::u16_at(part, 10 * mid as usize + 8);
-        left = left - half;
-        if before as u32 <= k {
-            base = mid;
-        }
-    }
-    base
+    let (minis, _) = part.as_chunks::<10>();
+    let after = minis.partition_point(|ten| words::le::u16_at(ten, 8) as u32 <= k);
+    after.saturating_sub(1) as u16
 }
 
 // The place with k of the block's places below it; 0 where there is none.
@@ -153,6 +145,7 @@ pub fn batch(
     requires room { (length questions.now ≤ length rows.old) × (length questions.now ≤ length ranks.old) }
     ensures { Batched part.now questions.now base first rows.old ranks.old rows.new ranks.new result }
 {
+    // Counted by hand: it moves only at a hit, which fills both lists at it.
     let mut n = 0;
     for row in questions {
         if let Some(at) = lookup(part, (*row - base) as u16) {
@@ -164,6 +157,19 @@ pub fn batch(
     n
 }
 
+// The first mini-block from one on that has rows, with its word.
+fn next_word(part: &Data, from: u16) -> Option<(u16, u64)>
+    ensures { FirstFull part.now from result }
+{
+    for m in from..1024 {
+        let word = words::le::read(part, 10 * m as usize, 8);
+        if word != 0 {
+            return Some((m, word));
+        }
+    }
+    None
+}
+
 // Fills out with the rows of the block that begins at row base, from that with `from` rows of the block below it on.
 pub fn page(part: &Data, base: u32, from: u32, out: &mut [u32])
     requires base_fits { base + 65536 ≤ 2 ^ 32 }
@@ -172,18 +178,15 @@ pub fn page(part: &Data, base: u32, from: u32, out: &mut [u32])
     let mut m = find_mini(part, from);
     let x = mini::mini_block(part, m);
     let mut word = bits::clear_lowest(x.bitvec, from.wrapping_sub(x.rank as u32));
-    let mut j = 0;
-    while j < out.len() {
+    for row in out.iter_mut() {
         if word == 0 {
-            if 1022 < m {
+            let Some((next, rows)) = next_word(part, m + 1) else {
                 return;
-            }
-            m += 1;
-            word = words::le::read(part, 10 * m as usize, 8);
-        } else {
-            out[j] = base + 64 * m as u32 + word.trailing_zeros();
-            word = word & (word - 1);
-            j += 1;
+            };
+            m = next;
+            word = rows;
         }
+        *row = base + 64 * m as u32 + word.trailing_zeros();
+        word &= word - 1;
     }
 }

@@ -1,24 +1,13 @@
-use Rattle.std.proofs.Common.{arith}
-use Rattle.dense.proofs.SelectLaws.{among_all, among_upper, among_lower, among_one}
+use Rattle.std.proofs.Common.{rules, arith, leb}
+use Rattle.std.proofs.lemmas.List.Sorted.{IsPartitionPoint-from_clause, IsPartitionedBy-leb}
+use Rattle.dense.proofs.SelectLaws.{count_of, counts_rise, last_mini}
 use Rattle.dense.proofs.find_mini.Goals as goal
-
-pub loop-left-init : goal.loop-left-init
-loop-left-init c = among_all c.args.part.now c.args.k c.told-part
-
-pub u16_at-before-requires : goal.u16_at-before-requires
-u16_at-before-requires c = omega (arith, c.told-part)
-
-pub loop-left-preserved-then-before-k : goal.loop-left-preserved-then-before-k
-loop-left-preserved-then-before-k c =
-    let l = c.loop-left in
-    among_upper c.told-part l.invariant (omega arith) c.u16_at-before.ensures c.if-before-k.true
-
-pub loop-left-preserved : goal.loop-left-preserved
-loop-left-preserved c =
-    let l = c.loop-left in
-    among_lower c.told-part l.invariant (omega arith) c.u16_at-before.ensures c.if-before-k.false
 
 pub returns : goal.returns
 returns c =
-    let l = c.loop-left in
-    among_one c.told-part l.invariant (omega arith)
+    let cut = c.as_chunks.ensures in
+    let found = c.partition_point-after.ensures in
+    rw c.saturating_sub.ensures (last_mini c.told-part cut.front cut.front_len c.args.k _ (omega (arith, c.told-part, cut.front_len, found.bound))
+    (λ ps h.
+    IsPartitionPoint-from_clause (λ ten. leb (count_of ten) c.args.k) _ _ found.partitioned
+    (IsPartitionedBy-leb count_of _ c.args.k (counts_rise c.told-part cut.front cut.front_len h)) (λ a r f' k. search rules)))
