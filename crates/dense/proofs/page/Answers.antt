@@ -28,10 +28,10 @@ pub overflow_add-row-in-loop-row : goal.overflow_add-row-in-loop-row
 overflow_add-row-in-loop-row c = elim c.if-word-eq0.branch [
   | then-word-eq0+in-Some w ↦
       let full = w.in-Some.ensures {u = tt} in
-      rw (w.m-is, w.word-is) (omega (arith, full.1, (bit_at-trailing_zeros w64 w.in-Some.rows full.5 full.4).0))
+      rw (w.m-is, w.word-is) (omega (arith, full.1, (bit_at-trailing_zeros w64 w.in-Some.rows full.4 full.5).0))
   | else-word-eq0 w ↦
       let l = c.loop-row.invariant in
-      rw (w.m-is, w.word-is) (omega (arith, l.within, (bit_at-trailing_zeros w64 c.loop-row.word l.word (omega (arith, w.if-word-eq0.false))).0))
+      rw (w.m-is, w.word-is) (omega (arith, l.within, (bit_at-trailing_zeros w64 c.loop-row.word (omega (arith, w.if-word-eq0.false)) l.word).0))
 ]
 
 pub loop-row-preserved : goal.loop-row-preserved

@@ -1,6 +1,4 @@
-use mathlib.Core.Path.{refl, ap}
 use native.Mathlib.Omega.{arith}
-use Rattle.search.specs.Search.{index_of}
 use Rattle.sparse.proofs.BatchLaws.{asking_none, asking_hit, asking_miss, asking_all}
 use Rattle.sparse.proofs.batch.Goals as goal
 use Rattle.sparse.proofs.batch.Goals.{in-Ok, in-Err}
@@ -15,20 +13,11 @@ overflow_sub-row c = omega (arith, c.requires.never_falls.1 c.loop-row.row-index
 pub overflow_cast-row : goal.overflow_cast-row
 overflow_cast-row c = omega (arith, c.requires.never_falls.1 c.loop-row.row-index c.loop-row-test.true)
 
-pub overflow_add-ranks : goal.overflow_add-ranks
-overflow_add-ranks c =
-    omega (
-      arith,
-      c.ranges.first,
-      c.from_cursor.ensures.inside,
-      ap index_of c.in-Ok.is,
-    )
-
 pub loop-row-preserved : goal.loop-row-preserved
 loop-row-preserved c =
     let asked = c.requires.never_falls in
     elim c.match-from_cursor.branch [
-      | in-Ok w ↦ rw (w.rows-is, w.ranks-is, w.n-is, w.cursor-is) (asking_hit c.loop-row.invariant asked.0 asked.1 c.loop-row-test.true c.from_cursor.ensures _ _ w.in-Ok.is refl)
+      | in-Ok w ↦ rw (w.rows-is, w.ranks-is, w.n-is, w.cursor-is) (asking_hit c.loop-row.invariant asked.0 asked.1 c.loop-row-test.true c.from_cursor.ensures _ _ w.in-Ok.is (omega (arith, w.to_u32.ensures)))
       | in-Err w ↦ rw (w.rows-is, w.ranks-is, w.n-is, w.cursor-is) (asking_miss c.loop-row.invariant asked.0 asked.1 c.loop-row-test.true c.from_cursor.ensures _ w.in-Err.is)
     ]
 
