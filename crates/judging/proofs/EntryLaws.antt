@@ -86,5 +86,6 @@ module _ {table : List (List ℕ)} {count : ℕ} {all : Option Totals} {low rows
     pub adding_small : is_entry count low x ≡ true → Small count (x.number + 1) (rows + x.rows) (bytes + size_of_data x.rows)
     adding_small o = small_more a.small (right count low x o)
 
-    pub adding_more : (n : ℕ) → n ≡ size_of_data x.rows → is_entry count low x ≡ true → Adding table count all (x.number + 1) (rows + x.rows) (bytes + n) (i + 1)
+    pub adding_more : (n : ℕ) → n ≡ size_of_data x.rows → is_entry count low x ≡ true
+        → Adding table count all (x.number + 1) (rows + x.rows) (bytes + n) (i + 1)
     adding_more n q o = rw q (record { walk = sym (totals_more count low rows bytes x (left table (i + 1)) o) ∙ first; small = adding_small o })

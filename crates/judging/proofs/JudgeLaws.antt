@@ -82,7 +82,8 @@ unfolding totals_from
 wrong_entries count es e =
     by_test (entries_ok count 0 es) (λ o. let r = rw o at e in absurd (let z : ◌≡◌ {A = ℕ} 0 1 = cc in omega arith)) (λ o. o)
 
-right_sums : (count : ℕ) (t : Totals) (es : List Entry) → Some t ≡ totals count es → (entries_ok count 0 es ≡ true) × (t.rows ≡ row_sum es) × (t.size ≡ data_sizes es)
+right_sums : (count : ℕ) (t : Totals) (es : List Entry) → Some t ≡ totals count es
+    → (entries_ok count 0 es ≡ true) × (t.rows ≡ row_sum es) × (t.size ≡ data_sizes es)
 unfolding totals_from
 right_sums count t es e =
     by_test (entries_ok count 0 es)
@@ -96,7 +97,8 @@ right_sums count t es e =
 pub entry_count_back : (file : List ℕ) (n : ℕ) → 2 ≤ length file → n ≡ number_in (part (length file - 2) (length file - 2 + 2) file) → n ≡ entry_count file
 entry_count_back file n h e = let l : length file - 2 + 2 ≡ length file = omega arith in e ∙ ap (λ to. number_in (part (length file - 2) to file)) l
 
-pub counted : (file : List ℕ) {head : Head} {n : ℕ} → head_of file ≡ Ok head → n ≡ number_in (part (length file - 2) (length file - 2 + 2) file) → n ≡ entry_count file
+pub counted : (file : List ℕ) {head : Head} {n : ℕ} → head_of file ≡ Ok head
+    → n ≡ number_in (part (length file - 2) (length file - 2 + 2) file) → n ≡ entry_count file
 counted file {head} {n} e q = entry_count_back file n (omega (arith, (headed file head e).upto)) q
 
 pub says_overlap : (file : List ℕ) (h : R.Head) → Headed file h → length file < h.start + 4 * entry_count file + 2 → refused 6 ≡ judged (verdict file)
@@ -108,8 +110,8 @@ pub record Fitting (file : List ℕ) (h : R.Head) (es : List Entry) : Type 0 whe
   pub room : h.start + 4 * entry_count file + 2 ≤ length file
   pub all : es ≡ entries_of file
 
-pub fitting : {file : List ℕ} {head : Head} {es : List Entry} → head_of file ≡ Ok head → head.start + 4 * entry_count file + 2 ≤ length file → es ≡ entries_of file
-    → Fitting file (count_read head) es
+pub fitting : {file : List ℕ} {head : Head} {es : List Entry} → head_of file ≡ Ok head
+    → head.start + 4 * entry_count file + 2 ≤ length file → es ≡ entries_of file → Fitting file (count_read head) es
 fitting {file} {head} e l a = record { head = headed file head e; room = l; all = a }
 
 pub says_wrong : {file : List ℕ} {h : R.Head} {es : List Entry} {e : Refusal} {o : Maybe Totals} {r : Result Totals Refusal} → Fitting file h es

@@ -18,7 +18,8 @@ chunk_entries (suc n) at file =
     let long : 4 * suc n ≡ 4 + 4 * n = omega arith in
     let one : at + 4 - at ≡ 4 = omega arith in
     let first : take 4 (take (4 + 4 * n) (drop at file)) ≡ take 4 (drop at file) = take-take 4 (4 + 4 * n) (drop at file) (omega arith) in
-    let rest : drop 4 (take (4 + 4 * n) (drop at file)) ≡ take (4 * n) (drop (at + 4) file) = drop-take 4 (4 * n) (drop at file) ∙ ap (take (4 * n)) (drop-drop 4 at file) in
+    let rest : drop 4 (take (4 + 4 * n) (drop at file)) ≡ take (4 * n) (drop (at + 4) file) =
+    drop-take 4 (4 * n) (drop at file) ∙ ap (take (4 * n)) (drop-drop 4 at file) in
     rw (long, one, first, rest, chunk_entries n (at + 4) file)
 
 -- those that end before the last two bytes, where n are said to stand
@@ -38,5 +39,6 @@ abbrev pub left : List (List ℕ) → ℕ → List Entry
 left table i = map entry_in (drop i table)
 
 -- the next of them, and those behind it
-pub left_some : (table : List (List ℕ)) (i : ℕ) (x : Entry) → i < length table → x ≡ entry_in (get_or table i []) → left table i ≡ x ∷ left table (i + 1)
+pub left_some : (table : List (List ℕ)) (i : ℕ) (x : Entry) → i < length table → x ≡ entry_in (get_or table i [])
+    → left table i ≡ x ∷ left table (i + 1)
 left_some table i x h e = at_drop_more (map entry_in) table i [] h ∙ ap (λ y. y ∷ left table (i + 1)) (sym e)

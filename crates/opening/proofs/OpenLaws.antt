@@ -76,7 +76,8 @@ filled file count y a =
     }
 
 -- so many entries, as they are read
-pub counted : {file : List ℕ} {count n : ℕ} → Filled file count → n ≡ number_in (part (length file - 2) (length file - 2 + 2) file) → n ≡ entry_count file
+pub counted : {file : List ℕ} {count n : ℕ} → Filled file count
+    → n ≡ number_in (part (length file - 2) (length file - 2 + 2) file) → n ≡ entry_count file
 counted {file} {n = n} f q = entry_count_back file n (omega (arith, f.fits)) q
 
 pub fill_start : (file directory : List ℕ) (table : List (List ℕ)) (count : ℕ) → Filled file count → map entry_in table ≡ entries_of file

@@ -26,17 +26,20 @@ returns-in_err-totals c =
 
 pub returns-then-from-head : goal.returns-then-from-head
 returns-then-from-head c =
-    let s = summed (fitting c.requires (omega (arith, c.count-number.ensures)) c.table-table.ensures) c.ok_or.ensures.ok_part c.in_ok-totals.was c.add_up.ensures in
+    let f = fitting c.requires (omega (arith, c.count-number.ensures)) c.table-table.ensures in
+    let s = summed f c.ok_or.ensures.ok_part c.in_ok-totals.was c.add_up.ensures in
     says_length s (λ e. omega (arith, c.count-number.ensures))
 
 pub all_ok-requires : goal.all_ok-requires
 all_ok-requires c =
-    let s = summed (fitting c.requires (omega (arith, c.count-number.ensures)) c.table-table.ensures) c.ok_or.ensures.ok_part c.in_ok-totals.was c.add_up.ensures in
+    let f = fitting c.requires (omega (arith, c.count-number.ensures)) c.table-table.ensures in
+    let s = summed f c.ok_or.ensures.ok_part c.in_ok-totals.was c.add_up.ensures in
     data_within s (omega (arith, c.count-number.ensures))
 
 pub returns-then-not-all_ok : goal.returns-then-not-all_ok
 returns-then-not-all_ok c =
-    let s = summed (fitting c.requires (omega (arith, c.count-number.ensures)) c.table-table.ensures) c.ok_or.ensures.ok_part c.in_ok-totals.was c.add_up.ensures in
+    let f = fitting c.requires (omega (arith, c.count-number.ensures)) c.table-table.ensures in
+    let s = summed f c.ok_or.ensures.ok_part c.in_ok-totals.was c.add_up.ensures in
     says_content s (omega (arith, c.count-number.ensures)) _ c.all_ok.ensures c.if-not-all_ok.true
 
 pub overflow_cast-result : goal.overflow_cast-result
@@ -44,5 +47,6 @@ overflow_cast-result c = omega (arith, (headed _ _ c.requires).short)
 
 pub returns : goal.returns
 returns c =
-    let s = summed (fitting c.requires (omega (arith, c.count-number.ensures)) c.table-table.ensures) c.ok_or.ensures.ok_part c.in_ok-totals.was c.add_up.ensures in
+    let f = fitting c.requires (omega (arith, c.count-number.ensures)) c.table-table.ensures in
+    let s = summed f c.ok_or.ensures.ok_part c.in_ok-totals.was c.add_up.ensures in
     says_record s (omega (arith, c.count-number.ensures)) _ c.all_ok.ensures c.if-not-all_ok.false

@@ -7,4 +7,5 @@ use Rattle.opening.proofs.fill.Given as goal
 
 abbrev pub invariant-loop-four : goal.invariant-loop-four
 invariant-loop-four l =
-    Filling l.initial.directory l.four-items l.row_count (sets l.initial.directory 0 (directory_in (verdict l.bytes))) l.directory l.block l.rows l.size l.four-index
+    let all = sets l.initial.directory 0 (directory_in (verdict l.bytes)) in
+    Filling l.initial.directory l.four-items l.row_count all l.directory l.block l.rows l.size l.four-index

@@ -11,13 +11,15 @@ pub returns-then-not-content_ok : goal.returns-then-not-content_ok
 unfolding part
 returns-then-not-content_ok c =
     let x = c.from_bytes-x in
-    checking_wrong c.loop-four.invariant x.result (omega arith) x.ensures _ c.data_size.ensures _ _ c.rows_at-end.ensures c.content_ok.ensures c.if-not-content_ok.true
+    checking_wrong c.loop-four.invariant x.result (omega arith) x.ensures _ c.data_size.ensures _ _ c.rows_at-end.ensures
+    c.content_ok.ensures c.if-not-content_ok.true
 
 pub loop-four-preserved : goal.loop-four-preserved
 unfolding part
 loop-four-preserved c =
     let x = c.from_bytes-x in
-    checking_more c.loop-four.invariant x.result (omega arith) x.ensures _ c.data_size.ensures _ _ c.rows_at-end.ensures c.content_ok.ensures c.if-not-content_ok.false
+    checking_more c.loop-four.invariant x.result (omega arith) x.ensures _ c.data_size.ensures _ _ c.rows_at-end.ensures
+    c.content_ok.ensures c.if-not-content_ok.false
 
 pub returns : goal.returns
 returns c = checking_end c.loop-four.invariant (omega arith)

@@ -9,7 +9,8 @@ returns-then-not-entry_ok c =
 
 pub loop-four-preserved : goal.loop-four-preserved
 loop-four-preserved c =
-    adding_more c.loop-four.invariant c.from_bytes-x.result (omega arith) c.from_bytes-x.ensures _ c.data_size-size.ensures (sym c.entry_ok.ensures ∙ c.if-not-entry_ok.false)
+    adding_more c.loop-four.invariant c.from_bytes-x.result (omega arith) c.from_bytes-x.ensures _ c.data_size-size.ensures
+    (sym c.entry_ok.ensures ∙ c.if-not-entry_ok.false)
 
 pub returns : goal.returns
 returns c = adding_end c.loop-four.invariant (omega arith)
