@@ -1,4 +1,5 @@
 // Batches and pages over an opened file: its bytes, and the directory and the record that opening gave. 10 comes first, then 4 or 9.
+// Rows and ranks are two lists, and a count says how much of them is new, as callers lend them.
 #![tactic(auto)]
 
 mod lookups;

@@ -56,7 +56,7 @@ fn in_block(
     blocks::batch(part, questions, ROWS * block, first, rows, ranks)
 }
 
-// The hits of questions in any order, one after another.
+// The hits of questions in any order, one after another. Not one loop with a block's batch: there each question lies in the block.
 pub(crate) fn in_order(
     index: Index,
     questions: &[u32],

@@ -59,7 +59,7 @@ fn find_mini(part: &Data, k: u32) -> u16
     after.saturating_sub(1) as u16
 }
 
-// The place with k of the block's places below it; 0 where there is none.
+// The place with k of the block's places below it; 0 where there is none, as `select` of a set says.
 pub fn select(part: &Data, k: u32) -> u32
     ensures inside { result < size }
     ensures exact { Of part.now (λ ps. result ≡ select k ps) }

@@ -60,7 +60,7 @@ pub fn put(out: &mut [u8], m: u16, before: u16, word: u64)
     words::le::put_u16(out, start + 8, before);
 }
 
-// A word made of rows, and the index of the first row past them.
+// A word made of rows, and the index of the first row past them: two results, each with its name.
 #[derive(Debug, Clone, Copy, PartialEq, Eq)]
 pub struct Gathered {
     pub word: u64,

@@ -2,7 +2,7 @@
 ghost use Rattle.std.specs.Prelude.{◌≡◌};
 ghost use Rattle.spec.specs.Reading.{count_of_blocks, size_of_data};
 
-// The rows of a block, populated or not.
+// The rows of a block, populated or not: row r is place r % ROWS of block r / ROWS, which two operators say at each use.
 pub const ROWS: u32 = 65536;
 
 // The largest row count: 65,535 blocks.

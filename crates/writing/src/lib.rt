@@ -12,7 +12,7 @@ ghost use Rattle.rows.specs.Runs.{ascends, places};
 use spec::{Count, Entry, Refusal};
 use words::block::{DENSE_FROM, LIMIT, ROWS};
 
-// The file of the rows, at the front of out, which otherwise stays; its length.
+// The file of the rows, at the front of out, which otherwise stays; its length. All three are the caller's.
 pub fn write(row_count: u32, rows: &[u32], out: &mut [u8]) -> Count
     ensures { WriteOwes row_count rows.now out.old (counted result, out.new) }
 {
@@ -60,7 +60,8 @@ fn put_blocks(out: &mut [u8], at: usize, to: usize, rows: &[u32])
     }
 }
 
-// The data of the rows of one block, stored from at on, and its entry, stored at to.
+// The data of the rows of one block, stored from at on, and its entry, stored at to. That their places rise is asked for: they are a part
+// of rows that ascend.
 fn put_block(out: &mut [u8], at: usize, to: usize, rows: &[u32])
     requires room { (at + size_of_data (length rows.now) ≤ to) × (to + 4 ≤ length out.old) }
     requires rows_there { (0 < length rows.now) × (rising 0 size (places rows.now) ≡ true) }
