@@ -1,4 +1,5 @@
-// Questions over an opened file: its bytes, and the directory and the record that opening gave. 10 comes first, then 9.
+// Questions over an opened file: its bytes, and the directory and the record that opening gave. 10 comes first, then 9. The three go as
+// parameters, since the calls' promises name each.
 #![tactic(auto)]
 
 pub mod index;

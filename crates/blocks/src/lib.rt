@@ -1,7 +1,7 @@
 // A block's questions, of its part of the file: dense if that has 10,240 bytes, else sparse, since 5,119 places take 10,238. Of any
 // bytes they answer something safe, and of a block's data what its places say. A function for each question: one that took the
-// question as a parameter would need a promise over all questions. A base and questions are plain numbers: what they owe is asked
-// at each.
+// question as a parameter would need a promise over all questions. Part, place and base are plain: one part is asked many places,
+// and a base is bounded by its block's number.
 #![tactic(auto)]
 
 ghost use Rattle.std.specs.Prelude.{◌≡◌, ◌+◌, ◌^◌, ◌≤◌, ◌<◌, length};

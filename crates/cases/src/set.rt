@@ -47,7 +47,8 @@ pub fn next(rows: &[u32], t: u32) -> Option<u32>
     rows.iter().copied().find(|r| t <= *r)
 }
 
-// The questions that are in the set go to the front of hits, and their ranks to that of ranks; returns how many.
+// The questions that are in the set go to the front of hits, and their ranks to that of ranks; returns how many. A loop of its own: each
+// answer is the plain question's.
 pub fn lookup_batch(rows: &[u32], questions: &[u32], hits: &mut [u32], ranks: &mut [u32]) -> usize
     requires few_rows { length rows.now < 2 ^ 32 }
     requires room { (length questions.now ≤ length hits.old) × (length questions.now ≤ length ranks.old) }

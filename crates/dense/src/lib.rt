@@ -11,7 +11,7 @@ ghost use Rattle.dense.specs.Mini.{LastMini, FirstFull};
 
 use mini::bits;
 
-// A dense block's data, as its part of the file has them.
+// A dense block's data, as its part of the file has them. The numbers are the format's own: 1,024 mini-blocks of ten bytes, the last of them 1,023.
 pub type Data = [u8; 10240];
 
 // A part as a dense block's data: 5,119 places, the most of a sparse block, take 10,238 bytes.

@@ -3,15 +3,10 @@ use Prim.Native.Nat.{ℕ, ◌+◌, ◌*◌, ◌≤◌, ◌<◌}
 use mathlib.Core.Path.{◌≡◌, sym, ap, ◌∙◌}
 use mathlib.Core.Bool.{true}
 use mathlib.Core.List.{List, []}
-use mathlib.Core.Logic.{inl, inr}
 use native.Mathlib.Omega.{arith}
 use lib.ListN.{length, get_or}
 use lib.Dec.{leb, ltb}
 use borrow.Author.Tests.{ltb-true, ltb-false, le-leb, lt-leb}
-use Rattle.std.specs.Prelude.{Option, Some, None}
-use Rattle.std.specs.Borrow.{Bor}
-use Rattle.std.specs.Option.{unwrap_or}
-use Rattle.std.specs.Slice.{IsGetRangeResult}
 use Rattle.spec.specs.declared.Record.{Record}
 use Rattle.spec.specs.Layout.{size, Block}
 use Rattle.spec.specs.Reading.{count_of_blocks, AreBytes, part, Head, Given}
@@ -70,14 +65,6 @@ module _ (from to : ℕ) (file : List ℕ) where
   pub inside_part : from ≤ to → to ≤ length file → part from to file ≡ inside from to file
   unfolding inside
   inside_part l m = rw (le-leb from to l, le-leb to (length file) m)
-
-  -- what `get` of the range gives, or else nothing
-  pub inside_got : (got : Option (Bor (List ℕ))) (none : Bor (List ℕ)) → none.now ≡ [] → IsGetRangeResult file from to got
-      → (unwrap_or got none).now ≡ inside from to file
-  unfolding part
-  inside_got None none e (inl l, some) = e ∙ inside_back l
-  inside_got None none e (inr l, some) = e ∙ inside_past l
-  inside_got (Some x) none e ((l, m, is, long), some) = is ∙ inside_part l m
 
 -- of what opening gave together, it is the block's data
 pub part_holds : (file directory : List ℕ) (rec : Record) → AreBytes file → (h : Head) (gs : List Block) → Given file directory rec h gs

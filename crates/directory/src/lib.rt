@@ -32,7 +32,13 @@ pub fn part<'a>(bytes: &'a [u8], directory: &[u32], data_start: u32, block: usiz
 {
     let from = data_start as usize + directory[2 * block + 1] as usize;
     let to = data_start as usize + directory[2 * block + 3] as usize;
-    bytes.get(from..to).unwrap_or(&[])
+    if to < from {
+        return &[];
+    }
+    if bytes.len() < to {
+        return &[];
+    }
+    &bytes[from..to]
 }
 
 // The last of the first blocks that has at most k rows before it. Empty blocks behind it have more, so they never take the last rank.

@@ -1,5 +1,5 @@
 // The calls for C: a question to the bytes of a file, answered by one 64-bit number. That is the value, or 4,294,967,296 plus the
-// refusal's number, and 4,294,967,296 itself for "none".
+// refusal's number, and 4,294,967,296 itself for "none". A function each, since C calls them by name.
 #![tactic(auto)]
 
 ghost use Rattle.spec.specs.Answers.{CallOwes, say_contains, say_rank, say_select, say_next};

@@ -22,7 +22,7 @@ pub(crate) fn all_ok(bytes: &[u8], head: Head, table: &[[u8; 4]]) -> bool
     true
 }
 
-// One block's: dense or sparse by its length. The end is a plain number: rows_at, which gives it, bounds it.
+// One block's: dense or sparse by its length, by each kind's own function. The end is a plain number: rows_at, which gives it, bounds it.
 fn content_ok(part: &[u8], rows: u32, end: u32) -> bool
     requires { (length part.now ≡ size_of_data rows) × (end ≤ 65536) }
     ensures { result ≡ is_content rows end part.now }

@@ -5,7 +5,8 @@ use spec::Refusal;
 use std::fmt::{self, Display, Formatter};
 use std::io;
 
-// Prints the line. The verdict is what makes a run fail: the stored output has no WRONG.
+// Prints the line. The verdict is what makes a run fail: the stored output has no WRONG. Name, came and due go as they are: one value of
+// them would be built for each line.
 pub fn line<T: Display + PartialEq + Copy>(
     rt: &impl Print,
     name: &str,

@@ -46,7 +46,7 @@ pub no_bits : (p w : ℕ) → bits 0 p w ≡ []
 unfolding bits
 no_bits p w = refl
 
--- bit n + 1 of a word is bit n of its half
+-- bit n + 1 of a word is bit n of its half; std's shr-shr would first have to be brought to w / 2
 pub half_pow : (w n : ℕ) → w / 2 / 2 ^ n ≡ w / 2 ^ suc n
 half_pow w n = rw (← (one-add n)) (shr-shr w 1 n)
 

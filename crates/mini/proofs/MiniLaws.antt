@@ -37,7 +37,7 @@ bytes_mini bs y n =
 
 -- ---- a part of a part
 
--- what is taken of a longer front
+-- what is taken of a longer front; std has it in two steps
 take_within : (n a t : ℕ) (l : List ℕ) → a + n ≤ t → take n (drop a (take t l)) ≡ take n (drop a l)
 take_within n a t l h =
     let e : t ≡ a + (t - a) = omega arith in

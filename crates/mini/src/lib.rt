@@ -54,13 +54,14 @@ pub fn put(out: &mut [u8], m: u16, before: u16, word: u64)
     requires { (length out.old ≡ 10240) × (m < 1024) }
     ensures { out.new ≡ sets out.old (10 * m) (mini_bytes (record { bitvec = word; rank = before })) }
 {
-    // Not the ten bytes by copy_from_slice: that takes 1.4 times as long, since it asks whether the two overlap.
+    // Field by field: the ten bytes by copy_from_slice take 1.4 times as long.
     let start = 10 * m as usize;
     words::le::write(out, start, 8, word);
     words::le::put_u16(out, start + 8, before);
 }
 
-// A word made of rows, and the index of the first row past them: two results, each with its name.
+// A word made of rows, and the index of the first row past them: two results, each with its name, since the next mini-block
+// goes on there.
 #[derive(Debug, Clone, Copy, PartialEq, Eq)]
 pub struct Gathered {
     pub word: u64,

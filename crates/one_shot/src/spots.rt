@@ -3,7 +3,7 @@ ghost use Rattle.std.specs.Prelude.{◌≡◌, ◌+◌, ◌*◌, ◌≤◌, leng
 ghost use Rattle.spec.specs.Reading.{entry_count, entries_of};
 ghost use Rattle.one_shot.specs.Spots.{spot_from, holder_from, Found};
 
-// The part is two indices: that they lie in the file is known of accepted files alone, and the walk takes any.
+// The part is two indices: that they lie in the file follows from the whole verdict, and is proved once, where File::part cuts.
 #[derive(Clone, Copy, Debug, PartialEq, Eq)]
 pub(crate) struct Spot {
     pub number: u16,
@@ -12,7 +12,7 @@ pub(crate) struct Spot {
     pub to: usize,
 }
 
-// The spot of a block, whose part is empty if the block is.
+// The spot of a block, whose part is empty if the block is: every question of an empty part has an answer.
 pub(crate) fn of_block(bytes: &[u8], start: u32, number: u16) -> Spot
     requires { 4 * entry_count bytes.now + 2 ≤ length bytes.now }
     ensures { result ≡ spot_from number 0 start (entries_of bytes.now) }
@@ -36,7 +36,8 @@ pub(crate) fn of_rank(bytes: &[u8], start: u32, k: u32) -> Spot
     find(bytes, start, |_, rows| (k as usize) < rows)
 }
 
-// The spot of the first entry that a test takes, by its number and the rows up to and with it; number 0, behind all, if it takes none.
+// The spot of the first entry that a test takes, by its number and the rows up to and with it; number 0, behind all, if
+// it takes none, as holder_from says.
 fn find<F: Fn(u16, usize) -> bool>(bytes: &[u8], start: u32, test: F) -> Spot
     requires fits { 4 * entry_count bytes.now + 2 ≤ length bytes.now }
     requires callable { F.IsAlwaysCallable test }

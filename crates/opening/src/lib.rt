@@ -43,7 +43,8 @@ fn fill(bytes: &[u8], row_count: u32, directory: &mut [u32])
     put_pairs(directory, block, blocks + 1, rows, size);
 }
 
-// The same pair for the blocks from one up to, not including, another.
+// The same pair for the blocks from one up to, not including, another: by their numbers, since what is said of the rest is said of the
+// whole list.
 fn put_pairs(directory: &mut [u32], from: usize, to: usize, rows: u32, size: u32)
     requires { (from ≤ to) × (2 * to ≤ length directory.old) }
     ensures { directory.new ≡ sets directory.old (2 * from) (same (to - from) rows size) }

@@ -61,7 +61,7 @@ pub fn run_end(rows: &[u32], from: usize, end: u64) -> usize
     requires never_falls { NeverFalls rows.now }
     ensures { Below rows.now end result }
 {
-    // no method of slices gallops; the row at `at` is below end
+    // the index stays, since the answer is an index of all rows; no method of slices gallops; the row at `at` is below end
     let mut at = from;
     let mut step = 1;
     while step < rows.len() - at {

@@ -1,6 +1,7 @@
 // A sparse block: its places as 16-bit numbers, ascending. Its questions take its part of the file, which is not 10,240 bytes long.
 // Of any such bytes they answer something safe, and of a block's data what its places say. Plain functions of a part, as dense's are,
-// and no trait or type for both: no step of the two is the same.
+// and no trait or type for both: no step of the two is the same. That a part is not as long as a dense one is asked for: a type of it
+// would be that one clause in a struct.
 #![tactic(auto)]
 
 ghost use Rattle.std.specs.Prelude.{◌≡◌, map, ◌+◌, ◌*◌, ◌%◌, ◌^◌, ◌≤◌, ◌<◌, length};
@@ -109,6 +110,7 @@ pub fn batch(
 {
     let mut n = 0;
     let mut cursor = 0;
+    // Not dense's loop: the cursor goes on from answer to answer. n moves only at a hit.
     for row in questions {
         match search::from_cursor(part, cursor, (*row - base) as u16) {
             Ok(at) => {

@@ -10,7 +10,7 @@ use Rattle.spec.specs.Set.{bit, contains, rank, lookup, select, next, hits, rank
 use Rattle.spec.specs.Layout.{Block, rows_of, file_of}
 use Rattle.spec.specs.Reading.{limit, count_of_blocks, Head, Verdict, fault, holds, verdict, record_of, directory_of, directory_length, Given}
 
--- ---- each answer's number and values, by a definition for each of the calls' types
+-- ---- each answer's number and values, by a definition for each of the calls' types: each can be wrong by itself
 
 -- a refusal's number
 abbrev pub number : Refusal → ℕ

@@ -10,6 +10,7 @@ pub times_bit : (n m : ℕ) (b : Bool) → m ≡ bit b → n * m ≤ n
 times_bit n m true e = rw e (omega arith)
 times_bit n m false e = rw e (omega arith)
 
+-- std's and-false and and-true, by the names that the papers have
 pub and_no : (b : Bool) → b && false ≡ false
 and_no = and-false
 

@@ -5,7 +5,7 @@ ghost use Rattle.spec.specs.Layout.{groups};
 ghost use Rattle.spec.specs.Reading.{ungroups};
 ghost use Rattle.words.specs.Count.{count_in};
 
-// A row count, and how many bytes it takes.
+// A row count, and how many bytes it takes: two results, each with its name.
 #[derive(Clone, Copy, Debug, PartialEq, Eq)]
 pub struct RowCount {
     pub count: u64,
@@ -53,7 +53,7 @@ pub fn size(count: u32) -> usize
     }
 }
 
-// The shortest form, written to the front of out; its length.
+// The shortest form, written to the front of out; its length, which goes back beside the buffer, since that is the caller's.
 pub fn write(out: &mut [u8], count: u32) -> usize
     requires { length (groups 4 count) ≤ length out.old }
     ensures wrote { out.new ≡ sets out.old 0 (groups 4 count) }

@@ -1,4 +1,5 @@
-// Little-endian numbers in a slice. One function reads and one writes, at any width up to eight bytes.
+// Little-endian numbers in a slice. One function reads and one writes, at any width up to eight bytes. Where to begin goes beside the
+// slice: what write says of the rest is said of the whole.
 ghost use Rattle.std.specs.Prelude.{◌≡◌, ◌+◌, ◌≤◌, length};
 ghost use Rattle.std.proofs.lemmas.List.Edits.{sets};
 ghost use Rattle.spec.specs.Layout.{bytes_of};
