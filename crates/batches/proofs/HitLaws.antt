@@ -27,6 +27,7 @@ tail n l = take (length l - n) (drop n l)
 abbrev pub with_tail : ℕ → List ℕ → List ℕ → List ℕ
 with_tail n l new = take n l ++ (new ++ drop (length l - n) (drop n l))
 
+-- what is left of a list, taken whole; std says its length alone
 tail_is : (n : ℕ) (l : List ℕ) → take (length l - n) (drop n l) ≡ drop n l
 tail_is n l = take_all (length l - n) (drop n l) (omega (arith, length-drop n l))
 
