@@ -3,27 +3,36 @@ use Prim.Native.Nat.{ℕ, ◌≤◌, ◌<◌}
 use mathlib.Core.Path.{◌≡◌, refl, sym, ap, ◌∙◌}
 use mathlib.Core.List.{List}
 use mathlib.Core.Option.{Option}
-use Rattle.std.specs.Prelude.{Ok, Some, None}
+use Rattle.std.specs.Prelude.{Result, Ok, Err, IsErrAnd, Some, None}
+use Rattle.std.proofs.lemmas.Result.{err_from_is_err_and}
 use Rattle.std.specs.Prelude.{Option as Maybe}
 use native.Mathlib.Omega.{arith}
 use lib.ListN.{length}
 use borrow.Author.Tests.{le-leb, lt-leb}
 use Rattle.spec.specs.declared.Record.{Record}
+use Rattle.spec.specs.declared.Refusal.{Refusal}
 use Rattle.spec.specs.Set.{select}
 use Rattle.spec.specs.Layout.{Block, rows_of}
 use Rattle.spec.specs.Reading.{Head, Verdict, fault, holds, verdict, record_of}
-use Rattle.spec.specs.Answers.{Said, value, refused, found, or_nothing, once, OnceOwes, say_select}
+use Rattle.spec.specs.Answers.{Said, value, refused, number, found, or_nothing, once, OnceOwes, say_select}
 use Rattle.words.specs.Part.{placed}
 use Rattle.judging.specs.Phases.{judged}
 use Rattle.one_shot.specs.Accepted.{Accepted, Says}
 
-pub owes_refusal : (file : List ℕ) (question : List ℕ → Said ℕ) (k : ℕ) → refused k ≡ judged (verdict file) → OnceOwes file question (refused k)
+owes_refusal : (file : List ℕ) (question : List ℕ → Said ℕ) (k : ℕ) → refused k ≡ judged (verdict file) → OnceOwes file question (refused k)
 unfolding once
 owes_refusal file question k e = go (verdict file) refl e
   where
     go : (v : Verdict) → verdict file ≡ v → refused k ≡ judged v → OnceOwes file question (refused k)
     go (fault j) p q = let same : k ≡ j = cc in rw (p, same)
     go (holds h gs) p q = absurd (let z : ◌≡◌ {A = ℕ} 0 1 = cc in omega arith)
+
+-- the same of what `?` hands on
+pub owes_error : {T : Type 0} (says : Result T Refusal → Said ℕ) → ((e : Refusal) → says (Err e) ≡ refused (number e)) → (file : List ℕ)
+    (question : List ℕ → Said ℕ) (r : Result T Refusal) (e : Refusal) → IsErrAnd r (λ y. y ≡ e) → refused (number e) ≡ judged (verdict file)
+    → OnceOwes file question (says r)
+owes_error says q file question r e h j =
+    let p = err_from_is_err_and r h in rw (p.1, p.2, q e) (owes_refusal file question (number e) j)
 
 pub owes_set : (file : List ℕ) (question : List ℕ → Said ℕ) (rec : Record) (s : Said ℕ) → Accepted file rec → Says file (λ xs. s ≡ question xs) → OnceOwes file question s
 unfolding once
