@@ -1,7 +1,7 @@
 // Damage to a dense block: the file of all 5,120 rows of 5,120, whose data begin at byte 2. Mini-block 79 has the last rows.
 use lines::{Answer, line};
 use spec::{Number, Refusal};
-use std::{array, io};
+use std::io;
 
 // Where mini-block 79 begins in the file.
 const MINI_79: usize = 792;
@@ -10,7 +10,11 @@ const MINI_79: usize = 792;
 const MINI_80: usize = 802;
 
 pub fn all(rt: &impl Print) -> io::Result<()> {
-    let rows: [u32; 5120] = array::from_fn(|i| i as u32);
+    // Filled in place: array::from_fn gives its array by value, and the stack then holds it twice.
+    let mut rows = [0; 5120];
+    for (i, row) in rows.iter_mut().enumerate() {
+        *row = i as u32;
+    }
     let mut bytes = [0; 10248];
     let _ = writing::write(5120, &rows, &mut bytes);
     opened(rt, "all 5120 rows of 5120", &bytes, Ok(5120))?;

@@ -2,7 +2,7 @@
 #![tactic(auto)]
 
 use spec::Refusal;
-use std::fmt::{self, Display, Formatter};
+use std::fmt::{self, Display, Formatter, Write};
 use std::io;
 
 // Prints the line. The verdict is what makes a run fail: the stored output has no WRONG. Name, came and due go as they are: one value of
@@ -14,7 +14,25 @@ pub fn line<T: Display + PartialEq + Copy>(
     due: T,
 ) -> io::Result<()> {
     let verdict = if came == due { "ok" } else { "WRONG" };
-    println!(rt; "{name}: {came} {verdict}")
+    let blank = if shows(&came) { " " } else { "" };
+    println!(rt; "{name}:{blank}{came} {verdict}")
+}
+
+// Whether a value shows anything: an empty list doesn't, and takes no blank.
+fn shows<T: Display>(value: &T) -> bool {
+    let mut seen = Seen(false);
+    write!(seen, "{value}").is_ok() && seen.0
+}
+
+// Whether text was written.
+#[derive(Clone, Copy)]
+struct Seen(bool);
+
+impl Write for Seen {
+    fn write_str(&mut self, text: &str) -> fmt::Result {
+        self.0 |= !text.is_empty();
+        Ok(())
+    }
 }
 
 // What a call answers: a value, or a refusal, which prints its number.

@@ -6,7 +6,7 @@ use native.Mathlib.Nat.{mul-zero, mul-suc}
 use native.Mathlib.Omega.{arith}
 use lib.ListN.{length, get_or, take, drop}
 use lib.Seq.{drop-drop, take-take}
-use Rattle.std.proofs.lemmas.List.{drop-take}
+use Rattle.std.proofs.lemmas.List.{drop-take, length-append}
 use Rattle.std.specs.Simd.{first_chunks}
 use Rattle.spec.specs.Layout.{bytes_of}
 use Rattle.spec.specs.Reading.{AreBytes, number_in, part}
@@ -34,6 +34,10 @@ pub bytes_mini : (bs : List ℕ) → AreBytes bs → length bs ≡ 10 → mini_b
 bytes_mini bs y n =
     ap₂ (λ a b. a ++ b) (part_number 8 0 8 bs y refl (omega arith)) (part_number 2 8 10 bs y refl (omega arith))
     ∙ part_join 0 8 10 bs (omega arith) (omega arith) ∙ ap (λ n. part 0 n bs) (sym n) ∙ part_all bs
+
+-- ten bytes they are
+pub mini_ten : (x : DenseMiniBlock) → length (mini_bytes x) ≡ 10
+mini_ten x = length-append (bytes_of 8 x.bitvec) (bytes_of 2 x.rank) ∙ omega (arith, length_bytes 8 x.bitvec, length_bytes 2 x.rank)
 
 -- ---- a part of a part
 

@@ -1,16 +1,19 @@
--- `mini::put` meets its contract: the word is stored, and the count behind it.
-use Prim.Native.Nat.{◌+◌, ◌*◌}
-use mathlib.Core.Path.{sym, ap, ◌∙◌}
-use lib.Seq.{sets}
-use Rattle.spec.specs.Layout.{bytes_of}
-use Rattle.spec.proofs.Bytes.{length_bytes}
-use Rattle.words.proofs.StoreLaws.{sets_append}
+-- `mini::put` meets its contract: the ten bytes of the mini-block are stored.
+use Prim.Native.Nat.{◌+◌, ◌-◌, ◌*◌}
+use mathlib.Core.Path.{◌≡◌, ap, ◌∙◌}
+use native.Mathlib.Omega.{arith}
+use Rattle.mini.specs.Mini.{mini_bytes}
+use Rattle.mini.specs.declared.DenseMiniBlock.{DenseMiniBlock}
+use Rattle.mini.proofs.MiniLaws.{mini_ten}
+use Rattle.words.proofs.StoreLaws.{part_back}
+use borrow.Rule.Slice.PartMut.{put_mid}
 use Rattle.mini.proofs.put.Goals as goal
 
 pub returns : goal.returns
 returns c =
     let a = c.args in
     let start = 10 * a.m in
-    let count = bytes_of 2 a.before in
-    c.put_u16.ensures ∙ ap (λ l. sets l (start + 8) count) c.write.ensures
-    ∙ sym (sets_append (bytes_of 8 a.word) count a.out.now start (start + 8) (ap (λ n. start + n) (length_bytes 8 a.word)))
+    let wide : start + 10 - start ≡ 10 = omega arith in
+    let ten : DenseMiniBlock = record { bitvec = a.word; rank = a.before } in
+    ap (λ l. put_mid start (start + 10 - start) a.out.now l) (c.store.ensures ∙ c.to_bytes-ten.ensures)
+    ∙ rw wide (part_back (mini_bytes ten) a.out.now start 10 (mini_ten ten) (omega (arith, c.requires)))
