@@ -21,7 +21,8 @@ pub fn line<T: Display + PartialEq + Copy>(
 // Whether a value shows anything: an empty list doesn't, and takes no blank.
 fn shows<T: Display>(value: &T) -> bool {
     let mut seen = Seen(false);
-    write!(seen, "{value}").is_ok() && seen.0
+    let _ = write!(seen, "{value}");
+    seen.0
 }
 
 // Whether text was written.
