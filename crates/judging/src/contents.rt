@@ -4,8 +4,8 @@ ghost use Rattle.spec.specs.Reading.{entry_in, size_of_data, data_sizes, is_cont
 
 use crate::head::Head;
 
-// Whether all blocks' contents are right: behind the head their data lie one after the other. Not inlined: with the caller's values
-// beside its own the loop keeps its counter on the stack, and many blocks of one row take up to 1.2 times as long to judge.
+// Whether all blocks' contents are right: behind the head their data lie one after the other. Not inlined: among its caller's values
+// the loop keeps its counter on the stack, and blocks of one row take up to 1.3 times as long to judge.
 #[inline(never)]
 pub(crate) fn all_ok(bytes: &[u8], head: Head, table: &[[u8; 4]]) -> bool
     requires { head.start + data_sizes (map entry_in table.now) ≤ length bytes.now }

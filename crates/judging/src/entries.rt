@@ -31,8 +31,7 @@ pub fn table(bytes: &[u8]) -> &[[u8; 4]]
     bytes[from..end].as_chunks::<4>().0
 }
 
-// Their sums, if they are right. Not inlined, by measure, as contents::all_ok.
-#[inline(never)]
+// Their sums, if they are right.
 pub(crate) fn add_up(table: &[[u8; 4]], row_count: u32) -> Option<Totals>
     ensures { result ≡ totals row_count (map entry_in table.now) }
 {

@@ -13,7 +13,8 @@ ghost use Rattle.judging.specs.Phases.{judged, head_of};
 use head::Head;
 use spec::{Opened, Record, Refusal};
 
-// The record of an accepted file, or its refusal.
+// The record of an accepted file, or its refusal. Not inlined: among its caller's values the entries' sums take 1.2 to 1.3 times as long.
+#[inline(never)]
 pub fn judge(bytes: &[u8]) -> Opened
     ensures { opened result ≡ judged (verdict bytes.now) }
 {
