@@ -63,7 +63,7 @@ pub fn put(out: &mut [u8], m: u16, before: u16, word: u64)
     store(&mut out[start..start + 10], ten);
 }
 
-// Ten bytes into ten. As one array: by copy_from_slice, whose length is no constant, they take 1.4 times as long.
+// Ten bytes into ten, as one array into another.
 fn store(out: &mut [u8], ten: [u8; 10])
     requires { length out.old ≡ 10 }
     ensures { out.new ≡ ten }
