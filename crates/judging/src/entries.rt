@@ -59,7 +59,7 @@ fn entry_ok(x: Entry, low: u32, row_count: u32) -> bool
         && x.rows <= rows_at(row_count, x.number)
 }
 
-// How many rows, populated or not, a block has. By a test: with saturating_sub judging took up to 1.3 times as long.
+// How many rows, populated or not, a block has.
 pub(crate) fn rows_at(row_count: u32, number: u16) -> u32
     ensures { result ≡ rows_at row_count number }
 {
